@@ -1,2 +1,3 @@
 mod NextUndos
+mod Prelude
 mod WorkedUndos

@@ -1,12 +1,6 @@
 -- The smallest device on which a run has the effective write, found one after another.
-use Rattle.abort_rollback.specs.Undos.{first_effective, has_effective_write, next_undo, undo_on}
-use Rattle.abort_rollback.specs.declared.undos.Undo.TheVariants.{Drive, Drop, Finished}
-use Rattle.command_rules.specs.Rosters.{device_no}
+use Rattle.abort_rollback.proofs.Prelude.{Bool, Drive, Drop, Finished, IsDisciplined, LineageState, List, None, Option, Some, accesses_at, ap, arith, cond, device_no, effective_writer, false, first_effective, has_access, has_effective_write, length, lineage_at, next_undo, refl, subst, suc, sym, true, undo_on, writes_nothing, zero, ℕ, ◌+◌, ◌<◌, ◌∙◌, ◌≡◌, ◌≤◌}
 use Rattle.home_types.specs.declared.numbers.RunNo.{RunNo}
-use Rattle.lineage_table.proofs.Cited.{writes_nothing}
-use Rattle.lineage_table.specs.Accesses.{IsDisciplined, effective_writer, has_access}
-use Rattle.lineage_table.specs.Lineages.{LineageState, accesses_at, lineage_at}
-use Rattle.std.proofs.Common.{Bool, List, None, Option, Some, ap, arith, cond, false, length, refl, subst, suc, sym, true, zero, ℕ, ◌+◌, ◌<◌, ◌∙◌, ◌≡◌, ◌≤◌}
 use Rattle.std.proofs.lemmas.Bool.{both_ways, eq-eqb}
 use Rattle.std.proofs.lemmas.Grind.{common_steps}
 use Rattle.std.specs.List.{range_with_len}

@@ -1,12 +1,8 @@
 -- Undos of worked windows: which comes next, and what becomes of a device's lineage.
-use Rattle.abort_rollback.specs.Undos.{next_undo}
-use Rattle.abort_rollback.specs.declared.undos.Undo.TheVariants.{Drive, Drop, Finished}
-use Rattle.command_rules.specs.Rosters.{device_no, run_no}
+use Rattle.abort_rollback.proofs.Prelude.{Drive, Drop, Finished, LineageState, List, None, Option, Some, [], counted_up, device_no, false, next_undo, refl, removed, run_no, true, undone, ℕ, ◌∷◌, ◌≡◌}
 use Rattle.home_types.specs.declared.commands.View.TheVariants.{Up}
-use Rattle.lineage_table.specs.Lineages.{LineageState, counted_up, removed, undone}
 use Rattle.lineage_table.specs.declared.accesses.Access.{Access}
 use Rattle.lineage_table.specs.declared.accesses.Status.TheVariants.{Released, Scheduled}
-use Rattle.std.proofs.Common.{List, None, Option, Some, [], false, refl, true, ℕ, ◌∷◌, ◌≡◌}
 
 abbrev done : ℕ → Option ℕ → Access
 done r wrote = record { run = run_no r; status = Released; view = Some Up; wrote = wrote; from = 0; to = 0 }

@@ -1,3 +1,4 @@
+mod Prelude
 mod RunBits
 mod Marking
 pub mod Cited

@@ -1,13 +1,7 @@
 -- What marking a run, and freeing the runs of a device, make of the marks.
 use Rattle.blocked_runs.proofs.RunBits.{has_either, has_nothing, has_without}
-use Rattle.blocked_runs.specs.Marks.{AreLeft, BlockedState, HasMarked, is_marked, is_marked_at}
-use Rattle.blocked_runs.specs.RunBits.{has_run}
-use Rattle.std.proofs.Common.{ap, arith, inl, inr, refl, sym, ◌∙◌}
-use Rattle.std.proofs.lemmas.Grind.{common_steps}
+use Rattle.blocked_runs.proofs.Prelude.{AreLeft, BlockedState, Bool, HasMarked, List, None, Option, Some, ap, arith, bit_and, bit_not, bit_or, common_steps, false, has_run, inl, inr, is_marked, is_marked_at, length, nat_lt, not, refl, slice_get, slice_index_or, slice_set, sym, true, unwrap_or, unwrap_or-slice_get, w64, ℕ, ◌&&◌, ◌+◌, ◌<◌, ◌==◌, ◌^◌, ◌||◌, ◌∙◌, ◌≡◌, ◌≢◌, ◌≤◌, ◌⊎◌}
 use Rattle.std.proofs.lemmas.List.{get_or-set_other, get_or-set_same}
-use Rattle.std.proofs.lemmas.Option.{unwrap_or-slice_get}
-use Rattle.std.specs.Int.{bit_not, w64}
-use Rattle.std.specs.Prelude.{Bool, List, None, Option, Some, bit_and, bit_or, false, length, nat_lt, not, slice_get, slice_index_or, slice_set, true, unwrap_or, ℕ, ◌&&◌, ◌+◌, ◌<◌, ◌==◌, ◌^◌, ◌||◌, ◌≡◌, ◌≢◌, ◌≤◌, ◌⊎◌}
 
 -- where nothing changes, a run is left where this holds of every device
 pub all_left : {P : ℕ → Type 0} (b : BlockedState) → ((d : ℕ) → P d) → AreLeft b b P

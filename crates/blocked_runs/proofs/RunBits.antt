@@ -1,10 +1,6 @@
 -- What the words of bits of runs say.
-use Rattle.blocked_runs.specs.RunBits.{has_run}
-use Rattle.std.proofs.Common.{ap, arith, refl, ◌∙◌}
-use Rattle.std.proofs.lemmas.Grind.{common_steps}
+use Rattle.blocked_runs.proofs.Prelude.{Bool, ap, arith, bit_and, bit_at, bit_not, bit_or, common_steps, false, has_run, max, min, nat_lt, not, refl, suc, true, w64, zero, ℕ, ◌&&◌, ◌-◌, ◌<◌, ◌==◌, ◌^◌, ◌||◌, ◌∙◌, ◌≡◌, ◌≢◌}
 use Rattle.std.proofs.lemmas.Nat.Bits.{bit_at-lt, bit_at-pow_other, bit_at-pow_same, bit_at-zero, bit_at_and, bit_at_not, bit_at_or}
-use Rattle.std.specs.Int.{bit_at, bit_not, w64}
-use Rattle.std.specs.Prelude.{Bool, bit_and, bit_or, false, max, min, nat_lt, not, suc, true, zero, ℕ, ◌&&◌, ◌-◌, ◌<◌, ◌==◌, ◌^◌, ◌||◌, ◌≡◌, ◌≢◌}
 
 -- the bits of two words together, of both, and of the one and not the other
 

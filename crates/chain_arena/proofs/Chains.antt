@@ -2,16 +2,8 @@
 use Rattle.chain_arena.proofs.Joins.{left_is, left_out, put_joined, right_is}
 use Rattle.chain_arena.proofs.Places.{eq_false, place_kept, which, within_of}
 use Rattle.chain_arena.proofs.Words.{apart_put, apart_without, at_tells, differ, has_is, length_put, length_without, not_at, value_here, value_past, value_put_other, value_put_same, value_without_other, value_without_same}
-use Rattle.chain_arena.specs.Chains.{AreApart, has_knot, is_at, put_before, value_at, without}
-use Rattle.chain_arena.specs.Linked.{Empties, Fills, IsChain, IsFree, IsLink, IsLinked, IsOn, Joined, Joins, knot, left, nil, SamePlaces, pair_then, pairs_of, right, right_in, value, value_in, walk}
-use Rattle.chain_arena.specs.Places.{IsPlace}
-use Rattle.std.proofs.lemmas.Option.{slice_get_past}
-use Rattle.std.specs.Prelude.{if◌then◌else◌, slice_get}
-use Rattle.chain_arena.specs.declared.knots.Knot.{Knot}
-use Rattle.chain_arena.specs.declared.links.Links.{Links}
-use Rattle.chain_arena.specs.declared.links.Node.{Node}
-use Rattle.std.proofs.Common.{List, None, Option, Some, [], ap, arith, false, inl, inr, is_some, length, refl, subst, suc, sym, true, true≢false, zero, ℕ, ◌+◌, ◌<◌, ◌||◌, ◌∙◌, ◌∷◌, ◌≡◌, ◌≢◌, ◌≤◌}
-use Rattle.std.proofs.lemmas.Grind.{common_steps}
+use Rattle.chain_arena.proofs.Prelude.{AreApart, Empties, Fills, IsChain, IsFree, IsLink, IsLinked, IsOn, IsPlace, Joined, Joins, Knot, Links, List, Node, None, Option, SamePlaces, Some, [], ap, arith, common_steps, false, has_knot, if◌then◌else◌, inl, inr, is_at, is_some, knot, left, length, nil, pair_then, pairs_of, put_before, refl, right, right_in, slice_get, slice_get_past, subst, suc, sym, true, true≢false, value, value_at, value_in, walk, without, zero, ℕ, ◌+◌, ◌||◌, ◌∙◌, ◌∷◌, ◌≡◌, ◌≢◌, ◌≤◌}
+use Rattle.std.proofs.Common.{◌<◌}
 
 none_some : {X : Type 0} (x : X) → None ≡ Some x → ⊥
 none_some x e = cc

@@ -1,10 +1,7 @@
 -- The words on a chain's pairs, where the list is cut at a pair. For the layers above.
 use Rattle.chain_arena.proofs.Words.{without_none}
-use Rattle.chain_arena.specs.Chains.{AreApart, from_knot, has_knot, is_at, put_before, set_value, value_at, values_of, without}
-use Rattle.chain_arena.specs.declared.knots.Knot.{Knot}
-use Rattle.std.proofs.Common.{List, Some, [], ap, ap₂, arith, false, length, refl, suc, true, ℕ, ◌++◌, ◌∷◌, ◌≡◌}
-use Rattle.std.proofs.lemmas.Grind.{common_steps}
-use Rattle.std.specs.Prelude.{if◌then◌else◌}
+use Rattle.chain_arena.proofs.Prelude.{AreApart, Knot, List, Some, [], ap, ap₂, arith, common_steps, false, from_knot, has_knot, if◌then◌else◌, is_at, length, put_before, refl, set_value, suc, true, value_at, values_of, without, ℕ, ◌∷◌, ◌≡◌}
+use Rattle.std.proofs.Common.{◌++◌}
 
 module _ {T : Type 0} where
   pub values_cut : (front : List (Knot × T)) (p : Knot × T) (rest : List (Knot × T)) → values_of (front ++ p ∷ rest) ≡ values_of front ++ p.1 ∷ values_of rest

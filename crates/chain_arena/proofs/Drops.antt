@@ -1,10 +1,6 @@
 -- The first pair leaves.
 use Rattle.chain_arena.proofs.Words.{at_tells, from_past, without_here}
-use Rattle.chain_arena.specs.Chains.{AreApart, from_knot, has_knot, is_at, without}
-use Rattle.chain_arena.specs.Linked.{Joined, nil}
-use Rattle.chain_arena.specs.declared.knots.Knot.{Knot}
-use Rattle.std.proofs.Common.{List, [], ap, arith, false, inl, inr, length, sym, true, true≢false, ℕ, ◌+◌, ◌||◌, ◌∙◌, ◌∷◌, ◌≡◌, ◌≢◌}
-use Rattle.std.proofs.lemmas.Grind.{common_steps}
+use Rattle.chain_arena.proofs.Prelude.{AreApart, Joined, Knot, List, [], ap, arith, common_steps, false, from_knot, has_knot, inl, inr, is_at, length, nil, sym, true, true≢false, without, ℕ, ◌+◌, ◌||◌, ◌∙◌, ◌∷◌, ◌≡◌, ◌≢◌}
 
 module _ {T : Type 0} where
   pub record HeadGone (ps : List (Knot × T)) (f k : ℕ) : Type 0 where

@@ -3,15 +3,9 @@ use Rattle.chain_arena.proofs.Chains.{free_same, no_knot}
 use Rattle.chain_arena.proofs.Joins.{same_links}
 use Rattle.chain_arena.proofs.Places.{eq_false, more_at, more_past, place_of, which, within_of}
 use Rattle.chain_arena.proofs.Words.{differ}
-use Rattle.chain_arena.specs.Linked.{IsChain, IsFree, IsLinked, IsOn, left, left_in, nil, node, pairs_of, right, right_in, value, value_in, with_free}
+use Rattle.chain_arena.proofs.Prelude.{IsChain, IsFree, IsLinked, IsOn, IsPlace, Knot, Links, List, Node, None, Some, ap, arith, if◌then◌else◌, inl, inr, left, left_in, length, length-append, nil, node, pairs_of, refl, right, right_in, slice_get, slice_get_past, subst, suc, sym, value, value_in, with_free, ℕ, ◌+◌, ◌==◌, ◌∙◌, ◌≡◌, ◌≢◌, ◌≤◌}
 use Rattle.chain_arena.specs.Blocks.{Placed}
-use Rattle.chain_arena.specs.Places.{IsPlace}
-use Rattle.chain_arena.specs.declared.knots.Knot.{Knot}
-use Rattle.chain_arena.specs.declared.links.Links.{Links}
-use Rattle.chain_arena.specs.declared.links.Node.{Node}
-use Rattle.std.proofs.Common.{List, None, Some, ap, arith, inl, inr, length, length-append, refl, subst, suc, sym, ℕ, ◌+◌, ◌<◌, ◌==◌, ◌∙◌, ◌≡◌, ◌≢◌, ◌≤◌}
-use Rattle.std.proofs.lemmas.Option.{slice_get_past}
-use Rattle.std.specs.Prelude.{if◌then◌else◌, slice_get}
+use Rattle.std.proofs.Common.{◌<◌}
 
 module _ {T : Type 0} where
   -- it is free

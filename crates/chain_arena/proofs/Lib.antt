@@ -6,6 +6,7 @@ mod Joins
 mod Nexts
 mod Opened
 mod Places
+mod Prelude
 mod Values
 mod Words
 pub mod Cited

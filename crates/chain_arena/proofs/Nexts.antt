@@ -2,14 +2,7 @@
 use Rattle.chain_arena.proofs.Chains.{no_nil, right_on, some_of}
 use Rattle.chain_arena.proofs.Places.{which}
 use Rattle.chain_arena.proofs.Words.{at_tells, differ, from_here, from_past, not_at, value_here, value_past}
-use Rattle.chain_arena.specs.Chains.{AreApart, IsCursor, from_knot, has_knot, is_at, rest_of, value_at}
-use Rattle.chain_arena.specs.Linked.{IsLinked, Joined, knot, knot_at, left, nil, pairs_of, right, right_in}
-use Rattle.chain_arena.specs.declared.knots.Knot.{Knot}
-use Rattle.chain_arena.specs.declared.links.Links.{Links}
-use Rattle.std.proofs.Common.{List, None, Some, [], ap, ap₂, arith, false, inl, inr, refl, subst, sym, true, true≢false, ℕ, ◌||◌, ◌∙◌, ◌∷◌, ◌≡◌, ◌≢◌}
-use Rattle.std.proofs.lemmas.Bool.{ne_eqb}
-use Rattle.std.proofs.lemmas.Grind.{common_steps}
-use Rattle.std.specs.Prelude.{if◌then◌else◌, slice_get}
+use Rattle.chain_arena.proofs.Prelude.{AreApart, IsCursor, IsLinked, Joined, Knot, Links, List, None, Some, [], ap, ap₂, arith, common_steps, false, from_knot, has_knot, if◌then◌else◌, inl, inr, is_at, knot, knot_at, left, ne_eqb, nil, pairs_of, refl, rest_of, right, right_in, slice_get, subst, sym, true, true≢false, value_at, ℕ, ◌||◌, ◌∙◌, ◌∷◌, ◌≡◌, ◌≢◌}
 
 some_same : {X : Type 0} (x y : X) → Some x ≡ Some y → x ≡ y
 some_same x y e = cc

@@ -1,32 +1,14 @@
 -- The block as a walk has it: its row, its one machine value, and how a `&mut` to it is opened and closed.
-use Prim.Native.Nat.{◌*◌, ◌+◌, ◌-◌, ◌<◌, ◌^◌, ℕ}
+use Rattle.chain_arena.proofs.Prelude.{Array, El, GName, Goal, Item, Lft, Logic, P, Ptr, R, RattleType, Seq, Share, Soaks, Step, Struct, Ura, Val, array_of, as_raw, as_written, block_ptr, block_with_items, cell_at, closes, drop, el_x, elτ, fauth, fbor, feq_l, ffalse, fjoin, flft, flt_i, flt_l, fobor, fobs, fpick, froom, fsep, fsplit, fst∗, full_share, in_a_block, mem, move, never, null_ptr, of_list, opens, part_at, ptr_val, rewrite, sem, shape, step, sz, token, ty_array, vcons, vnil, vptr, vstruct, ‵, ◌$◌, ◌*◌, ◌++◌, ◌-◌, ◌<◌, ◌^◌}
+use Prim.Native.Nat.{◌+◌, ℕ}
 use Rattle.chain_arena.specs.Memory.{block_at}
 use Rattle.chain_arena.specs.contracts.memory.Memory as C
-use Rattle.core.proofs.alloc.Calls.{token}
-use Rattle.core.specs.Allocator.{array_of, block_with_items}
-use Rattle.std_alloc.proofs.RawLayout.{as_raw, as_written}
-use Rattle.std_alloc.proofs.VecSteps.El.{El, P, R, el_x, elτ, sz}
-use base.Fml.{GName, Lft, Share, fauth, fbor, ffalse, flft, fobor, fobs, froom, fsep}
-use base.Fraction.{full_share}
-use base.Logic.{fst∗, never}
 use base.Stored.{Gv}
-use denote.Array.{Array}
-use denote.Memory.{cell_at, mem, part_at}
-use denote.RattleType.{RattleType}
-use denote.RawPtr.{Ptr, block_ptr, in_a_block, null_ptr, ptr_val}
 use denote.Shadow.{pure_i}
-use denote.Steps.{closes, opens}
-use denote.Struct.Owning.{shape}
-use denote.Struct.Struct.{Struct}
 use lib.ListN.{length}
-use mathlib.Core.List.{List, [], ◌++◌, ◌∷◌}
+use mathlib.Core.List.{List, [], ◌∷◌}
 use mathlib.Core.Path.{ap, refl, sym, ◌∙◌, ◌≡◌}
 use mir.Raw.{raw as bare}
-use mir.Syntax.{ty_array}
-use mir.Val.{Val, of_list, vcons, vnil, vptr, vstruct}
-use seplogic.Ra.Ura.{Ura}
-use types.Kit.{Goal, Item, Seq, Soaks, Step, drop, feq_l, fjoin, flt_i, flt_l, fpick, fsplit, move, rewrite, step, ‵, ◌$◌}
-use types.Logic.{Logic, sem}
 use types.SemTy.{Body as Borrowed}
 
 abbrev pub word : Ptr → Val

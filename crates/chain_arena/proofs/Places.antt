@@ -1,12 +1,6 @@
 -- One place of a block is written: what the reads of the others find.
-use Rattle.chain_arena.specs.Linked.{Empties, Fills, IsFree, SetsLeft, SetsRight, left_in, nil, right_in, value_in}
-use Rattle.chain_arena.specs.Places.{IsPlace}
-use Rattle.chain_arena.specs.declared.links.Links.{Links}
-use Rattle.chain_arena.specs.declared.links.Node.{Node}
-use Rattle.std.proofs.Common.{List, None, Option, Some, [], ap, arith, false, inl, inr, length, length-set, refl, set, suc, sym, zero, ℕ, ◌+◌, ◌++◌, ◌<◌, ◌==◌, ◌∙◌, ◌∷◌, ◌≡◌, ◌≢◌, ◌⊎◌}
-use Rattle.std.proofs.lemmas.Bool.{ne_eqb}
-use Rattle.std.proofs.lemmas.Option.{slice_get_within}
-use Rattle.std.specs.Prelude.{if◌then◌else◌, slice_get}
+use Rattle.chain_arena.proofs.Prelude.{Empties, Fills, IsFree, IsPlace, Links, List, Node, None, Option, SetsLeft, SetsRight, Some, [], ap, arith, false, if◌then◌else◌, inl, inr, left_in, length, length-set, ne_eqb, nil, refl, right_in, set, slice_get, slice_get_within, suc, sym, value_in, zero, ℕ, ◌+◌, ◌==◌, ◌∙◌, ◌∷◌, ◌≡◌, ◌≢◌, ◌⊎◌}
+use Rattle.std.proofs.Common.{◌++◌, ◌<◌}
 
 pub which : (j k : ℕ) → (j ≡ k) ⊎ (j ≢ k)
 which zero zero = inl refl

@@ -3,14 +3,7 @@ use Rattle.chain_arena.proofs.Chains.{free_same, has_value, is_filled, linked}
 use Rattle.chain_arena.proofs.Joins.{same_links}
 use Rattle.chain_arena.proofs.Places.{place_kept, same_in, set_past, which, written}
 use Rattle.chain_arena.proofs.Words.{at_tells, not_at, value_past}
-use Rattle.chain_arena.specs.Chains.{AreApart, has_knot, is_at, set_value, value_at}
-use Rattle.chain_arena.specs.Linked.{IsChain, IsLinked, Joined, left, left_in, nil, pairs_of, right, right_in, value, value_in, with_value}
-use Rattle.chain_arena.specs.declared.knots.Knot.{Knot}
-use Rattle.chain_arena.specs.declared.links.Links.{Links}
-use Rattle.chain_arena.specs.declared.links.Node.{Node}
-use Rattle.std.proofs.Common.{List, None, Some, [], ap, arith, false, inl, inr, length, length-set, refl, suc, sym, true, true≢false, ℕ, ◌==◌, ◌||◌, ◌∙◌, ◌∷◌, ◌≡◌, ◌≢◌}
-use Rattle.std.proofs.lemmas.Grind.{common_steps}
-use Rattle.std.specs.Prelude.{if◌then◌else◌, slice_get}
+use Rattle.chain_arena.proofs.Prelude.{AreApart, IsChain, IsLinked, Joined, Knot, Links, List, Node, None, Some, [], ap, arith, common_steps, false, has_knot, if◌then◌else◌, inl, inr, is_at, left, left_in, length, length-set, nil, pairs_of, refl, right, right_in, set_value, slice_get, suc, sym, true, true≢false, value, value_at, value_in, with_value, ℕ, ◌==◌, ◌||◌, ◌∙◌, ◌∷◌, ◌≡◌, ◌≢◌}
 
 module _ {T : Type 0} (k : ℕ) (w : T) where
   has_set : (j : ℕ) (ps : List (Knot × T)) → has_knot j (set_value k w ps) ≡ has_knot j ps

@@ -1,11 +1,7 @@
 -- The words on a chain's pairs.
-use Rattle.chain_arena.specs.Chains.{AreApart, from_knot, has_knot, is_at, put_before, value_at, without}
-use Rattle.chain_arena.specs.declared.knots.Knot.{Knot}
-use Rattle.std.proofs.Common.{List, None, Some, [], ap, arith, false, inl, inr, is_some, length, refl, subst, sym, true, true≢false, ℕ, ◌++◌, ◌+◌, ◌||◌, ◌∙◌, ◌∷◌, ◌≡◌, ◌≢◌, ◌⊎◌}
+use Rattle.chain_arena.proofs.Prelude.{AreApart, Knot, List, None, Some, [], ap, arith, common_steps, false, from_knot, has_knot, if◌then◌else◌, inl, inr, is_at, is_some, length, ne_eqb, put_before, refl, subst, sym, true, true≢false, value_at, without, ℕ, ◌+◌, ◌||◌, ◌∙◌, ◌∷◌, ◌≡◌, ◌≢◌, ◌⊎◌}
+use Rattle.std.proofs.Common.{◌++◌}
 use Rattle.std.proofs.lemmas.Bool.Decides.{eqb_tells}
-use Rattle.std.proofs.lemmas.Bool.{ne_eqb}
-use Rattle.std.proofs.lemmas.Grind.{common_steps}
-use Rattle.std.specs.Prelude.{if◌then◌else◌}
 
 module _ {T : Type 0} where
   -- the pair has the knot, or it has another

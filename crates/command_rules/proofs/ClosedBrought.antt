@@ -1,10 +1,5 @@
 -- How an item is brought forward, exchange by exchange.
-use Rattle.command_rules.specs.ClosedSets.{are_apart, brought, exchanged, may_pass}
-use Rattle.std.proofs.Common.{ap, arith, refl, subst, sym, ◌∙◌}
-use Rattle.std.proofs.lemmas.Grind.{common_steps}
-use Rattle.std.proofs.lemmas.List.{take-append-drop}
-use Rattle.std.specs.List.{list_any}
-use Rattle.std.specs.Prelude.{Bool, List, None, Option, Some, [], drop, false, length, not, option_and_then, option_map, slice_get, suc, take, true, unwrap_or, zero, ℕ, ◌++◌, ◌+◌, ◌-◌, ◌<◌, ◌||◌, ◌∷◌, ◌≡◌, ◌≤◌}
+use Rattle.command_rules.proofs.Prelude.{Bool, List, None, Option, Some, [], ap, are_apart, arith, brought, common_steps, drop, exchanged, false, length, list_any, may_pass, not, option_and_then, option_map, refl, slice_get, subst, suc, sym, take, take-append-drop, true, unwrap_or, zero, ℕ, ◌++◌, ◌+◌, ◌-◌, ◌<◌, ◌||◌, ◌∙◌, ◌∷◌, ◌≡◌, ◌≤◌}
 
 further : (at : ℕ) → at + 1 ≡ suc at
 further at = omega arith

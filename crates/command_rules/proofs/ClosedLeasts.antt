@@ -1,14 +1,9 @@
 -- The closure is the least closed set that holds the seeds, and the set that grows is the least one
 -- that fits.
 use Rattle.command_rules.proofs.ClosedParts.{closure_closed}
-use Rattle.command_rules.specs.ClosedSets.{BarsRise, IsClosed, IsFitting, IsLeast, IsPart, chosen, closure, either_of, grown, others, rearranged, widened, wider}
-use Rattle.std.proofs.Common.{ap, arith, cond, inl, inr, refl, subst, sym, ◌∙◌}
-use Rattle.std.proofs.lemmas.Grind.{common_steps}
-use Rattle.std.proofs.lemmas.List.{length-map}
+use Rattle.command_rules.proofs.Prelude.{BarsRise, Bool, IsClosed, IsFitting, IsLeast, IsPart, List, [], ap, arith, chosen, closure, common_steps, cond, count_by, either_of, false, fold, grown, if◌then◌else◌, inl, inr, length, length-map, list_any, map, nat_le, others, rearranged, refl, subst, suc, sym, true, widened, wider, ℕ, ◌++◌, ◌+◌, ◌||◌, ◌∙◌, ◌∷◌, ◌≡◌, ◌≤◌, ◌⊎◌}
 use Rattle.std.proofs.lemmas.List.Folds.{list_any-append}
 use Rattle.std.proofs.lemmas.List.Sums.{sum_by-cons}
-use Rattle.std.specs.List.{list_any}
-use Rattle.std.specs.Prelude.{Bool, List, [], count_by, false, fold, if◌then◌else◌, length, map, nat_le, suc, true, ℕ, ◌+◌, ◌++◌, ◌||◌, ◌∷◌, ◌≡◌, ◌≤◌, ◌⊎◌}
 
 -- Parts of a set
 

@@ -1,9 +1,5 @@
 -- How the items of a closed set are brought before the others, one after the other.
-use Rattle.command_rules.specs.ClosedSets.{HoldsFirst, IsClosed, brought, chosen, exchanged, may_pass, others, rearranged}
-use Rattle.std.proofs.Common.{ap, append_assoc, arith, get_or, refl, subst, sym, ◌∙◌}
-use Rattle.std.proofs.lemmas.Grind.{common_steps}
-use Rattle.std.specs.List.{list_any}
-use Rattle.std.specs.Prelude.{Bool, List, Option, Some, [], drop, false, length, not, option_map, slice_get, suc, take, true, unwrap_or, zero, ℕ, ◌++◌, ◌+◌, ◌-◌, ◌<◌, ◌||◌, ◌∷◌, ◌≡◌, ◌≤◌}
+use Rattle.command_rules.proofs.Prelude.{Bool, HoldsFirst, IsClosed, List, Option, Some, [], ap, append_assoc, arith, brought, chosen, common_steps, drop, exchanged, false, get_or, length, list_any, may_pass, not, option_map, others, rearranged, refl, slice_get, subst, suc, sym, take, true, unwrap_or, zero, ℕ, ◌++◌, ◌+◌, ◌-◌, ◌<◌, ◌||◌, ◌∙◌, ◌∷◌, ◌≡◌, ◌≤◌}
 
 -- The first items of the line
 

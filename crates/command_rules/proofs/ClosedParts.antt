@@ -1,11 +1,7 @@
 -- The closure is closed; and a line that is parted at a closed set keeps each part whose items meet
 -- pairwise.
-use Rattle.command_rules.specs.ClosedSets.{IsClosed, Meets, chosen, closure, others}
-use Rattle.std.proofs.Common.{ap, arith, cond, refl, sym, ◌∙◌}
-use Rattle.std.proofs.lemmas.Grind.{common_steps}
+use Rattle.command_rules.proofs.Prelude.{Bool, IsClosed, List, Meets, [], ap, arith, chosen, closure, common_steps, cond, false, filter, if◌then◌else◌, list_any, others, refl, sym, true, ◌++◌, ◌||◌, ◌∙◌, ◌∷◌, ◌≡◌}
 use Rattle.std.proofs.lemmas.List.Elements.{filter-append}
-use Rattle.std.specs.List.{list_any}
-use Rattle.std.specs.Prelude.{Bool, List, [], false, filter, if◌then◌else◌, true, ◌++◌, ◌||◌, ◌∷◌, ◌≡◌}
 
 -- the closure is closed
 pub closure_closed : {A : Type 0} (meets : A → A → Bool) (seeds : List Bool) (line : List A) → IsClosed meets (closure meets seeds line) line

@@ -1,8 +1,4 @@
-use Rattle.command_rules.specs.ClosedSets.{Exchanged, IsClosed, Stays, Swaps, chosen, others}
-use Rattle.std.proofs.Common.{ap, append_assoc, arith, refl, subst, sym}
-use Rattle.std.proofs.lemmas.Grind.{common_steps}
-use Rattle.std.specs.List.{list_any}
-use Rattle.std.specs.Prelude.{Bool, List, [], false, true, ◌++◌, ◌||◌, ◌∷◌, ◌≡◌}
+use Rattle.command_rules.proofs.Prelude.{Bool, Exchanged, IsClosed, List, Stays, Swaps, [], ap, append_assoc, arith, chosen, common_steps, false, list_any, others, refl, subst, sym, true, ◌++◌, ◌||◌, ◌∷◌, ◌≡◌}
 
 -- behind an item more
 behind : {A : Type 0} (meets : A → A → Bool) (i : A) (line next : List A) → Exchanged meets line next → Exchanged meets (i ∷ line) (i ∷ next)

@@ -1,17 +1,7 @@
 -- The devices that a run reads first, and writes, are told from its last command on.
 use Rattle.command_rules.proofs.FirstReads.{unread}
-use Rattle.command_rules.specs.Footprints.{alone}
-use Rattle.command_rules.specs.Rosters.{Run, commands_of, reads_first, touches, writes_on}
-use Rattle.home_types.proofs.Cited.{contains_insert, contains_remove}
-use Rattle.home_types.specs.Commands.{is_always, reads, writes}
-use Rattle.home_types.specs.DeviceSets.{Devices}
-use Rattle.home_types.specs.declared.commands.Command.{Command}
-use Rattle.std.proofs.Common.{ap, arith, refl, subst, sym, ◌∙◌}
-use Rattle.std.proofs.lemmas.Grind.{common_steps}
-use Rattle.std.proofs.lemmas.List.{drop_all, drop_more}
+use Rattle.command_rules.proofs.Prelude.{Bool, Command, Devices, List, Run, [], alone, ap, arith, commands_of, common_steps, contains_insert, contains_remove, drop, drop_all, drop_more, false, is_always, length, nat_cmp, not, reads, reads_first, refl, slice_index_or, subst, sym, touches, true, writes, writes_on, ℕ, ◌&&◌, ◌+◌, ◌-◌, ◌<◌, ◌==◌, ◌||◌, ◌∙◌, ◌∷◌, ◌≡◌}
 use Rattle.std.specs.FinSet as set
-use Rattle.std.specs.Ordering.{nat_cmp}
-use Rattle.std.specs.Prelude.{Bool, List, [], drop, false, length, not, slice_index_or, true, ℕ, ◌&&◌, ◌+◌, ◌-◌, ◌<◌, ◌==◌, ◌||◌, ◌∷◌, ◌≡◌}
 
 -- What one command more in front makes of both
 

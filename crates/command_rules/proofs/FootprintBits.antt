@@ -1,20 +1,10 @@
 -- A footprint is made from the last command on.
 use Rattle.command_rules.proofs.FirstUses.{CoversUses}
-use Rattle.command_rules.specs.Footprints.{AreFootprints, IsFootprint, ends_use}
-use Rattle.command_rules.specs.Rosters.{Run, commands_of, is_on, no_command}
-use Rattle.command_rules.specs.declared.indexed_rosters.Footprint.{Footprint}
-use Rattle.home_types.proofs.Cited.{contains_insert, or_bit, snoc_get}
-use Rattle.home_types.specs.DeviceSets.{Devices}
-use Rattle.home_types.specs.declared.commands.Command.{Command}
-use Rattle.std.proofs.Common.{ap, arith, inl, inr, refl, subst, sym, ◌∙◌, ◌⊎◌}
-use Rattle.std.proofs.lemmas.Grind.{common_steps}
-use Rattle.std.proofs.lemmas.List.{at_drop_more, drop_all, get_or_default, length-append}
+use Rattle.command_rules.proofs.Prelude.{AreFootprints, Bool, Command, Devices, Footprint, IsFootprint, List, Run, Some, [], ap, arith, at_drop_more, bit_or, commands_of, common_steps, contains_insert, drop, drop_all, ends_use, false, get_or_default, inl, inr, is_on, length, list_any, nat_cmp, no_command, or_bit, refl, slice_get, slice_index_or, snoc_get, subst, suc, sym, true, zero, ℕ, ◌++◌, ◌+◌, ◌-◌, ◌<◌, ◌==◌, ◌^◌, ◌||◌, ◌∙◌, ◌∷◌, ◌≡◌, ◌≤◌, ◌⊎◌}
+use Rattle.std.proofs.lemmas.List.{length-append}
 use Rattle.std.proofs.lemmas.Nat.Bits.{bit_at-lt, bit_at-zero}
 use Rattle.std.specs.FinSet as set
 use Rattle.std.specs.Int.{bit_at}
-use Rattle.std.specs.List.{list_any}
-use Rattle.std.specs.Ordering.{nat_cmp}
-use Rattle.std.specs.Prelude.{Bool, List, Some, [], bit_or, drop, false, length, slice_get, slice_index_or, suc, true, zero, ℕ, ◌++◌, ◌+◌, ◌-◌, ◌<◌, ◌==◌, ◌^◌, ◌||◌, ◌∷◌, ◌≡◌, ◌≤◌}
 
 -- the set and the bits say of the commands from this number on what a footprint says
 pub record Covers (cs : List Command) (left : ℕ) (held : Devices) (bits : ℕ) : Type 0 where

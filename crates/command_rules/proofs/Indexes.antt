@@ -1,10 +1,5 @@
 -- Which rosters may be indexed.
-use Rattle.command_rules.specs.Rosters.{is_on}
-use Rattle.home_types.specs.declared.commands.Command.{Command}
-use Rattle.std.proofs.Common.{arith, refl, subst}
-use Rattle.std.proofs.lemmas.Grind.{common_steps}
-use Rattle.std.specs.List.{list_any}
-use Rattle.std.specs.Prelude.{Bool, List, Some, [], false, slice_get, suc, true, zero, ℕ, ◌<◌, ◌==◌, ◌||◌, ◌∷◌, ◌≡◌}
+use Rattle.command_rules.proofs.Prelude.{Bool, Command, List, Some, [], arith, common_steps, false, is_on, list_any, refl, slice_get, subst, suc, true, zero, ℕ, ◌<◌, ◌==◌, ◌||◌, ◌∷◌, ◌≡◌}
 
 -- a device on which a command is, is below what all their devices are below
 pub device_below : (d size : ℕ) (cs : List Command) → ((k : ℕ) (c : Command) → slice_get cs k ≡ Some c → c.device.0 < size) → list_any (is_on d) cs ≡ true → d < size

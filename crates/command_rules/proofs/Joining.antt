@@ -1,14 +1,7 @@
 -- The runs of a roster with one more at its end.
 use Rattle.command_rules.proofs.FootprintBits.{footprints_more}
-use Rattle.command_rules.specs.Footprints.{AreFootprints, FitsIndex, IsFootprint}
-use Rattle.command_rules.specs.Rosters.{Run, commands_of, plain_run, run_in_roster}
-use Rattle.command_rules.specs.declared.rosters.RosterRun.{RosterRun}
-use Rattle.command_rules.specs.declared.indexed_rosters.Footprint.{Footprint}
+use Rattle.command_rules.proofs.Prelude.{AreFootprints, Command, FitsIndex, Footprint, IsFootprint, List, Option, RosterRun, Run, Some, [], ap, arith, commands_of, length, length-append, length-map, map, map-append, option_map, plain_run, refl, run_in_roster, slice_get, subst, suc, sym, unwrap_or, zero, ℕ, ◌++◌, ◌+◌, ◌<◌, ◌∙◌, ◌∷◌, ◌≡◌, ◌≤◌}
 use Rattle.home_types.specs.Limits.{most_commands, most_devices}
-use Rattle.home_types.specs.declared.commands.Command.{Command}
-use Rattle.std.proofs.Common.{ap, arith, length-append, refl, subst, sym, ◌∙◌}
-use Rattle.std.proofs.lemmas.List.{length-map, map-append}
-use Rattle.std.specs.Prelude.{List, Option, Some, [], length, map, option_map, slice_get, suc, unwrap_or, zero, ℕ, ◌+◌, ◌++◌, ◌<◌, ◌∷◌, ◌≡◌, ◌≤◌}
 
 -- a run of it is one that there was, or the last one
 pub data OneOf (runs : List Run) (q : Run) (r : ℕ) : Type 0 where

@@ -1,10 +1,6 @@
 -- The last place of which a test holds.
 use Rattle.command_rules.specs.Searches.{last_place}
-use Rattle.std.proofs.Common.{ap, arith, refl, subst, sym, ◌∙◌}
-use Rattle.std.proofs.lemmas.Grind.{common_steps}
-use Rattle.std.specs.List.{list_any}
-use Rattle.std.specs.Option.{option_or}
-use Rattle.std.specs.Prelude.{Bool, IfNone, IfSome, List, None, Option, Some, [], drop, false, get_or, if◌then◌else◌, length, option_map, slice_index_or, suc, true, unwrap_or, zero, ℕ, ◌+◌, ◌-◌, ◌<◌, ◌∷◌, ◌≡◌, ◌≤◌, ◌||◌}
+use Rattle.command_rules.proofs.Prelude.{Bool, IfNone, IfSome, List, None, Option, Some, [], ap, arith, common_steps, drop, false, get_or, if◌then◌else◌, length, list_any, option_map, option_or, refl, slice_index_or, subst, suc, sym, true, unwrap_or, zero, ℕ, ◌+◌, ◌-◌, ◌<◌, ◌||◌, ◌∙◌, ◌∷◌, ◌≡◌, ◌≤◌}
 
 -- where nothing passes there is none
 pub last_none : {A : Type 0} (test : A → Bool) (xs : List A) → list_any test xs ≡ false → last_place test xs ≡ None

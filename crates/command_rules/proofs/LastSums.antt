@@ -1,9 +1,5 @@
 -- The sum up to the last command on a device, added up from the front.
-use Rattle.command_rules.specs.Rosters.{estimate_to_last, is_on}
-use Rattle.home_types.specs.declared.commands.Command.{Command}
-use Rattle.std.proofs.Common.{Bool, List, [], add_assoc, ap, arith, drop, false, get_or, if◌then◌else◌, length, refl, sym, true, zero-add, ℕ, ◌+◌, ◌<◌, ◌||◌, ◌∙◌, ◌≡◌, ◌∷◌}
-use Rattle.std.proofs.lemmas.List.{at_drop_more}
-use Rattle.std.specs.List.{list_any}
+use Rattle.command_rules.proofs.Prelude.{Bool, Command, List, [], add_assoc, ap, arith, at_drop_more, drop, estimate_to_last, false, get_or, if◌then◌else◌, is_on, length, list_any, refl, sym, true, zero-add, ℕ, ◌+◌, ◌<◌, ◌||◌, ◌∙◌, ◌∷◌, ◌≡◌}
 
 -- the sum up to the last command on the device, where the commands before these gave `sum` in all and `to_last` up to the last on it
 abbrev pub sum_or : ℕ → List Command → ℕ → ℕ → ℕ

@@ -1,3 +1,4 @@
+mod Prelude
 mod RosterReads
 mod LastPlaces
 mod LastSums

@@ -1,13 +1,8 @@
 -- Items of one device, and a run and the one that it follows, meet.
 use Rattle.command_rules.specs.Apart.{are_tied, meet, share_device}
-use Rattle.command_rules.specs.Rosters.{Run, commands_of, follows, is_on, shares, touches}
-use Rattle.home_types.specs.declared.commands.Command.{Command}
+use Rattle.command_rules.proofs.Prelude.{Bool, Command, List, Run, [], ap, arith, commands_of, common_steps, false, follows, is_on, list_any, refl, shares, touches, true, ℕ, ◌==◌, ◌||◌, ◌∙◌, ◌∷◌, ◌≡◌}
 use Rattle.home_types.specs.declared.items.Item.TheVariants.{Back, Failed, Ran}
 use Rattle.home_types.specs.declared.items.Item.{Item}
-use Rattle.std.proofs.Common.{ap, arith, refl, ◌∙◌}
-use Rattle.std.proofs.lemmas.Grind.{common_steps}
-use Rattle.std.specs.List.{list_any}
-use Rattle.std.specs.Prelude.{Bool, List, [], false, true, ℕ, ◌==◌, ◌||◌, ◌∷◌, ◌≡◌}
 
 -- runs that have one device share it
 pub both_touch : (runs : List Run) (r q d : ℕ) → touches runs r d ≡ true → touches runs q d ≡ true → shares runs r q ≡ true

@@ -1,8 +1,6 @@
 -- A run's commands, and the run that it follows, by its place in the roster.
-use Rattle.command_rules.specs.Rosters.{commands_of, followed_by, is_run, plain_run, runs_of}
+use Rattle.command_rules.proofs.Prelude.{IsTrue, RosterRun, Some, ap, arith, commands_of, followed_by, is_run, plain_run, refl, runs_of, slice_get, suc, zero, ℕ, ◌-◌, ◌∙◌, ◌≡◌}
 use Rattle.command_rules.specs.declared.rosters.Roster.{Roster}
-use Rattle.command_rules.specs.declared.rosters.RosterRun.{RosterRun}
-use Rattle.std.proofs.Common.{IsTrue, Some, ap, arith, refl, slice_get, suc, zero, ℕ, ◌-◌, ◌∙◌, ◌≡◌}
 use Rattle.std.proofs.lemmas.Option.{slice_get-map}
 
 -- the run at the place i has the number after it

@@ -1,14 +1,6 @@
 -- Two runs share a device exactly where their footprints meet.
-use Rattle.command_rules.specs.Footprints.{IsFootprint}
-use Rattle.command_rules.specs.Rosters.{is_on}
-use Rattle.command_rules.specs.declared.indexed_rosters.Footprint.{Footprint}
-use Rattle.home_types.specs.DeviceSets.{Meet}
-use Rattle.home_types.specs.declared.commands.Command.{Command}
-use Rattle.std.proofs.Common.{arith, refl, subst, sym, ◌∙◌}
+use Rattle.command_rules.proofs.Prelude.{Bool, Command, Footprint, IsFootprint, IsTrue, List, Meet, [], arith, common_steps, false, is_on, list_any, refl, subst, sym, true, ℕ, ◌==◌, ◌||◌, ◌∙◌, ◌∷◌, ◌≡◌}
 use Rattle.std.proofs.lemmas.Bool.{or_right}
-use Rattle.std.proofs.lemmas.Grind.{common_steps}
-use Rattle.std.specs.List.{list_any}
-use Rattle.std.specs.Prelude.{Bool, IsTrue, List, [], false, true, ℕ, ◌==◌, ◌||◌, ◌∷◌, ◌≡◌}
 
 -- a device in both lists
 shared : (cs others : List Command) (d : ℕ) → list_any (is_on d) cs ≡ true → list_any (is_on d) others ≡ true → list_any (λ (c : Command). list_any (is_on c.device.0) others) cs ≡ true

@@ -1,11 +1,6 @@
 -- The command line by its command.
-use Rattle.command_words.specs.CommandLines.{command_line_of, command_of}
-use Rattle.command_words.specs.OptionGrammar.{options_by_words}
-use Rattle.command_words.specs.declared.command_lines.CommandLine.TheVariants.{Keep, Replay, Run, Watch}
-use Rattle.command_words.specs.declared.command_lines.Options.{Options}
-use Rattle.std.proofs.Common.{List, Option, [], ap, ap₂, arith, codes, drop, length, map, option_map, refl, sym, take, ℕ, ◌-◌, ◌≡◌, ◌≤◌, ◌∙◌, ◌∷◌}
+use Rattle.command_words.proofs.Prelude.{Keep, List, Option, Options, Replay, Run, Watch, [], ap, ap₂, arith, codes, command_line_of, command_of, drop, length, map, option_map, options_by_words, refl, slice_index_or, sym, take, ℕ, ◌-◌, ◌∙◌, ◌∷◌, ◌≡◌, ◌≤◌}
 use Rattle.std.proofs.lemmas.List.{take_rest}
-use Rattle.std.specs.Prelude.{slice_index_or}
 
 module _ {X : Type 0} (bytes : X → List ℕ) where
   -- the words after the first

@@ -1,19 +1,11 @@
 -- One word more, where a value is due.
-use Rattle.clap.specs.Faults.{settle_fault, step_fault, turn_fault}
-use Rattle.clap.specs.Kinds.{or_else}
-use Rattle.clap.specs.Lexer.{long_of, short_of}
-use Rattle.clap.specs.Walk.{Row, Text, Waiting, Walk, after_step, arg_by_long, has_row, idle, next, option, plain_word, positional, short_word, walked}
-use Rattle.clap.specs.declared.error.kind.ErrorKind.TheVariants.{UnknownArgument}
+use Rattle.command_words.proofs.Prelude.{Bool, GivenOptions, List, None, Option, Row, Some, Text, UnknownArgument, Valued, Waiting, Walk, [], after_step, ap, ap₂, arg_by_long, bytes_eq, chars, codes, false, has_row, idle, if◌then◌else◌, inl, inr, is_some, long_of, model, named_model, named_scheduler, next, option, option_and_then, option_name, option_value, options_after, or_else, plain_word, positional, refl, scheduler, settle_fault, short_of, short_word, slice_get, step_fault, sym, true, turn_fault, with_word, ℕ, ◌==◌, ◌∙◌, ◌∷◌, ◌≡◌}
+use Rattle.clap.specs.Walk.{walked}
 use Rattle.command_words.proofs.GrammarLemmas.{bad_value}
 use Rattle.command_words.proofs.OptionRows.{Holds, fine_use, id_of, model_used, scheduler_used, second_use}
 use Rattle.command_words.proofs.OptionSteps.{Steps, broken_ends, fault_ends, nothing_more}
 use Rattle.command_words.proofs.WalkedOptions.{Rules, Top, at, flags_there, held, is_fault, long_turn, no_long, no_mark, pending_fails, plain_turn, short_fault_is, short_plain}
 use Rattle.command_words.proofs.WordShapes.{Looks, long, other, short}
-use Rattle.command_words.specs.OptionGrammar.{GivenOptions, Valued, model, option_name, option_value, options_after, scheduler, with_word}
-use Rattle.command_words.specs.OptionWords.{named_model, named_scheduler}
-use Rattle.std.proofs.Common.{Bool, List, None, Option, Some, [], ap, ap₂, codes, false, if◌then◌else◌, inl, inr, is_some, refl, slice_get, sym, true, ℕ, ◌==◌, ◌∙◌, ◌∷◌, ◌≡◌}
-use Rattle.std.specs.Prelude.{option_and_then}
-use Rattle.std.specs.Str.{bytes_eq, chars}
 
 -- ---- a word, where a value is due
 

@@ -1,11 +1,5 @@
 -- The plain grammar of the options.
-use Rattle.command_words.specs.OptionGrammar.{GivenOptions, Valued, model, option_name, option_value, options_after, options_given, scheduler, with_trace, with_value, with_valued, with_word}
-use Rattle.command_words.specs.OptionWords.{has_end_mark, mode_asked_for, mode_from_pair, model_asked_for, named_model, named_scheduler, scheduler_asked_for}
-use Rattle.home_types.specs.declared.modes.Visibility.{Visibility}
-use Rattle.std.proofs.Common.{Bool, List, None, Option, Some, [], ap, codes, false, if◌then◌else◌, option_map, refl, subst, sym, true, true≢false, ℕ, ◌||◌, ◌≡◌, ◌∙◌, ◌∷◌}
-use Rattle.std.proofs.lemmas.Slice.Eq.{bytes_eq-Decides}
-use Rattle.std.specs.Prelude.{option_and_then}
-use Rattle.std.specs.Str.{bytes_eq}
+use Rattle.command_words.proofs.Prelude.{Bool, GivenOptions, List, None, Option, Some, Valued, Visibility, [], ap, bytes_eq, bytes_eq-Decides, codes, false, has_end_mark, if◌then◌else◌, mode_asked_for, mode_from_pair, model, model_asked_for, named_model, named_scheduler, option_and_then, option_map, option_name, option_value, options_after, options_given, refl, scheduler, scheduler_asked_for, subst, sym, true, true≢false, with_trace, with_value, with_valued, with_word, ℕ, ◌||◌, ◌∙◌, ◌∷◌, ◌≡◌}
 
 -- nothing comes of what gives nothing
 none_after : {X Y : Type 0} (f : X → Option Y) → ((x : X) → f x ≡ None) → (o : Option X) → option_and_then f o ≡ None

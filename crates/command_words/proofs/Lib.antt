@@ -6,6 +6,7 @@ mod OptionLemmas
 mod OptionRows
 mod OptionSteps
 mod PairedModes
+mod Prelude
 mod TrialLemmas
 mod WalkedOptions
 mod WordShapes

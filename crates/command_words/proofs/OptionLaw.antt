@@ -1,18 +1,11 @@
 -- The options that `clap` reads are those of the plain grammar.
-use Rattle.clap.specs.Faults.{settle_fault}
-use Rattle.clap.specs.Kinds.{or_else}
-use Rattle.clap.specs.Walk.{Text, Walk, finished, nothing_held, settled_rows, walk_from}
+use Rattle.command_words.proofs.Prelude.{Bool, GivenOptions, List, None, Some, Text, Walk, [], ap, ap₂, bytes_eq, codes, false, finished, has_end_mark, if◌then◌else◌, inl, inr, is_some, mode_asked_for, nothing_given, nothing_held, option_and_then, option_map, options_after, options_by_words, options_from, options_given, options_of, options_read, or_else, refl, settle_fault, settled_rows, subst, sym, true, unless_refused, walk_from, ◌∙◌, ◌∷◌, ◌≡◌}
 use Rattle.command_words.proofs.DueValues.{due_step, settle_fails}
 use Rattle.command_words.proofs.GrammarLemmas.{marked_gives_none}
 use Rattle.command_words.proofs.OptionRows.{Holds, end_options, fine_defaults, finished_rows, id_of}
 use Rattle.command_words.proofs.OptionSteps.{Stands, Steps, free_step}
 use Rattle.command_words.proofs.WalkedOptions.{Rules, answer, fault_first, held, none_first, none_next, read_by_word, refused}
 use Rattle.command_words.proofs.WordShapes.{looks}
-use Rattle.command_words.specs.OptionGrammar.{GivenOptions, nothing_given, options_after, options_by_words, options_given}
-use Rattle.command_words.specs.OptionWords.{has_end_mark, mode_asked_for, options_from, options_of, options_read, unless_refused}
-use Rattle.std.proofs.Common.{Bool, List, None, Some, [], ap, ap₂, codes, false, if◌then◌else◌, inl, inr, is_some, option_map, refl, subst, sym, true, ◌∙◌, ◌∷◌, ◌≡◌}
-use Rattle.std.specs.Prelude.{option_and_then}
-use Rattle.std.specs.Str.{bytes_eq}
 
 -- ---- the law
 

@@ -1,18 +1,10 @@
 -- What `clap` answers at the options, and where a word is `--`.
-use Rattle.std.proofs.Common.{◌≡◌, List, [], ◌∷◌, true, false, map, if◌then◌else◌, ℕ, Option, None, refl, ap, ◌∙◌, sym, codes}
-use Rattle.std.specs.List.{list_any}
-use Rattle.std.specs.Str.{bytes_eq}
+use Rattle.command_words.proofs.Prelude.{IsAmong, Kinds, List, None, Option, Options, Text, [], ap, bytes_eq, codes, false, fault_of, first_of, has_end_mark, if◌then◌else◌, is_simple, is_simple_and_free, list_any, map, matches_of, options_app, options_found, options_from, options_of, options_read, options_with, refl, rows_of, sym, true, unless_refused, ℕ, ◌∙◌, ◌∷◌, ◌≡◌}
 use Rattle.clap.specs.Matches.{first_value}
-use Rattle.clap.specs.Walk.{Text, first_of, rows_of}
-use Rattle.clap.specs.Simple.{is_simple, matches_of}
-use Rattle.clap.specs.Faults.{fault_of, is_simple_and_free}
-use Rattle.clap.specs.Kinds.{Kinds, IsAmong}
 use Rattle.clap.specs.declared.error.kind.ErrorKind.{ErrorKind}
 use Rattle.clap.specs.declared.parser.matches.Found.{Found}
 use Rattle.clap.proofs.OnLiterals.{clap_on_literals}
 use Rattle.clap.proofs.WalkLemmas.{first_value-rows, list_any-map}
-use Rattle.command_words.specs.declared.command_lines.Options.{Options}
-use Rattle.command_words.specs.OptionWords.{has_end_mark, options_app, options_of, options_read, options_from, options_found, unless_refused, options_with}
 
 pub options-simple : is_simple options_app ≡ true
 unfolding clap_on_literals

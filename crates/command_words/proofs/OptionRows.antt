@@ -1,18 +1,11 @@
 -- The rows that `clap` keeps, and what was given.
-use Rattle.clap.specs.Faults.{default_fault, defaults_fault, use_fault}
-use Rattle.clap.specs.Kinds.{Kinds, or_else}
-use Rattle.clap.specs.Simple.{filled}
-use Rattle.clap.specs.Walk.{Row, Rule, Text, arg_by_long, at_row, first_of, has_row, more_values, reading_by, used, with_default, with_values, without}
+use Rattle.command_words.proofs.Prelude.{Bool, GivenOptions, Kinds, List, None, Option, Row, Rule, Some, Text, Valued, [], ap, append-nil, ap₂, arg_by_long, at_row, bytes_eq, codes, cond, default_fault, false, filled, find, first_of, fold, has_row, if◌then◌else◌, is_some, list_any, model, model_rule, more_values, option_and_then, options_from, options_given, options_with, or_else, reading_by, refl, scheduler, scheduler_rule, slice_get, subst, sym, trace_of, trace_rule, true, use_fault, used, with_default, with_values, without, ◌++◌, ◌||◌, ◌∙◌, ◌∷◌, ◌≡◌}
+use Rattle.clap.specs.Faults.{defaults_fault}
 use Rattle.clap.specs.declared.builder.value_parser.Reading.{Reading}
 use Rattle.clap.specs.declared.parser.matches.ValueSource.{ValueSource}
 use Rattle.clap.specs.declared.parser.matches.ValueSource.TheVariants.{CommandLine, DefaultValue}
 use Rattle.command_words.proofs.WalkedOptions.{Rules, is_fault, none_first, none_next}
-use Rattle.command_words.specs.OptionGrammar.{GivenOptions, Valued, model, options_given, scheduler}
-use Rattle.command_words.specs.OptionWords.{model_rule, options_from, options_with, scheduler_rule, trace_of, trace_rule}
-use Rattle.std.proofs.Common.{Bool, List, None, Option, Some, [], ap, append-nil, ap₂, codes, cond, false, fold, if◌then◌else◌, is_some, refl, slice_get, subst, sym, true, ◌++◌, ◌||◌, ◌∙◌, ◌∷◌, ◌≡◌}
-use Rattle.std.specs.List.{find, fold, list_any}
-use Rattle.std.specs.Prelude.{option_and_then}
-use Rattle.std.specs.Str.{bytes_eq}
+use Rattle.std.specs.List.{fold}
 
 -- ---- rows
 

@@ -1,16 +1,9 @@
 -- One word more, where no value is due.
-use Rattle.clap.specs.Faults.{long_fault, settle_fault, step_fault, turn_fault, use_fault}
-use Rattle.clap.specs.Kinds.{Kinds, or_else}
-use Rattle.clap.specs.Walk.{Held, Row, Rule, Step, Text, Walk, after_flag, after_step, arg_by_long, has_row, idle, long_met, option, settled_rows, used, walked}
+use Rattle.command_words.proofs.Prelude.{Bool, GivenOptions, Held, Kinds, List, None, Option, Row, Rule, Some, Step, Text, Valued, Walk, [], after_flag, after_step, ap, ap₂, arg_by_long, bytes_eq, bytes_eq-Decides, codes, false, has_end_mark, has_row, idle, if◌then◌else◌, inl, inr, long_fault, long_met, model, option, option_and_then, option_name, option_value, options_after, or_else, refl, scheduler, settle_fault, settled_rows, step_fault, sym, true, turn_fault, use_fault, used, with_option, with_trace, with_value, with_valued, with_word, ℕ, ◌∙◌, ◌∷◌, ◌≡◌, ◌⊎◌}
+use Rattle.clap.specs.Walk.{walked}
 use Rattle.command_words.proofs.OptionRows.{Holds, argument_of, by_name, fine_trace, fine_use, id_of, model_used, rule_of, scheduler_used, second_trace, second_use, trace_arg, trace_used}
 use Rattle.command_words.proofs.WalkedOptions.{Rules, Top, answer, at, broken, fault_first, held, is_fault, refused, stray_other, stray_short}
 use Rattle.command_words.proofs.WordShapes.{IsNoOption, Looks, long, long_name, long_value, other, short}
-use Rattle.command_words.specs.OptionGrammar.{GivenOptions, Valued, model, option_name, option_value, options_after, scheduler, with_option, with_trace, with_value, with_valued, with_word}
-use Rattle.command_words.specs.OptionWords.{has_end_mark}
-use Rattle.std.proofs.Common.{Bool, List, None, Option, Some, [], ap, ap₂, codes, false, if◌then◌else◌, inl, inr, refl, sym, true, ℕ, ◌∙◌, ◌∷◌, ◌≡◌, ◌⊎◌}
-use Rattle.std.proofs.lemmas.Slice.Eq.{bytes_eq-Decides}
-use Rattle.std.specs.Prelude.{option_and_then}
-use Rattle.std.specs.Str.{bytes_eq}
 
 -- ---- where the walk and the grammar stand
 

@@ -1,17 +1,8 @@
 -- A command line has no mode but one whose scheduler goes with its model.
-use Rattle.command_words.specs.CommandLines.{check_of, command_line_of, trial_of}
-use Rattle.command_words.specs.OptionGrammar.{GivenOptions, Valued, nothing_given, options_after, options_by_words, options_given, with_word}
-use Rattle.command_words.specs.OptionWords.{goes_with, mode_asked_for, mode_from_pair, model_asked_for, scheduler_asked_for}
-use Rattle.command_words.specs.TrialNumbers.{trial_number}
-use Rattle.command_words.specs.declared.command_lines.CommandLine.TheVariants.{Check, Keep, Replay, Run, Trial, Watch}
+use Rattle.command_words.proofs.Prelude.{Bool, Check, GivenOptions, Keep, List, None, Option, Options, Replay, Run, Some, Trial, Valued, Visibility, Watch, [], bytes_eq, check_of, codes, command_line_of, false, goes_with, if◌then◌else◌, is_some, mode_asked_for, mode_from_pair, model_asked_for, nothing_given, option_and_then, option_map, options_after, options_by_words, options_given, refl, scheduler_asked_for, subst, trial_number, trial_of, true, with_word, ℕ, ⊤, ◌∷◌, ◌≡◌}
 use Rattle.command_words.specs.declared.command_lines.CommandLine.{CommandLine}
-use Rattle.command_words.specs.declared.command_lines.Options.{Options}
 use Rattle.home_types.specs.declared.modes.Mode.{Mode}
 use Rattle.home_types.specs.declared.modes.Scheduler.{Scheduler}
-use Rattle.home_types.specs.declared.modes.Visibility.{Visibility}
-use Rattle.std.proofs.Common.{Bool, List, None, Option, Some, [], codes, false, if◌then◌else◌, is_some, option_map, refl, subst, true, ℕ, ◌≡◌, ◌∷◌}
-use Rattle.std.specs.Prelude.{option_and_then, ⊤}
-use Rattle.std.specs.Str.{bytes_eq}
 
 -- the mode of the line, if it has one, is a pair
 abbrev pub IsPaired : CommandLine → Type 0

@@ -1,14 +1,10 @@
 -- What `parse` answers at the number of a trial.
-use Rattle.command_words.specs.TrialNumbers.{is_decimal_digit, is_short_numeral, is_window_count, starts_with_no_zero, trial_number}
-use Rattle.std.proofs.Common.{Err, List, None, Ok, Some, [], ap, arith, false, if◌then◌else◌, length, nat_le, not, refl, subst, suc, sym, true, ℕ, ◌*◌, ◌+◌, ◌<◌, ◌≡◌, ◌≤◌, ◌∙◌, ◌∷◌, ◌==◌, ◌^◌, ◌≢◌}
+use Rattle.command_words.proofs.Prelude.{Err, List, None, Ok, Result, Some, [], all_ascii_digits, ap, arith, false, if◌then◌else◌, is_decimal_digit, is_short_numeral, is_window_count, length, list_all, nat_le, not, refl, starts_with_no_zero, subst, suc, sym, trial_number, true, ℕ, ◌*◌, ◌+◌, ◌<◌, ◌==◌, ◌^◌, ◌∙◌, ◌∷◌, ◌≡◌, ◌≢◌, ◌≤◌}
 use Rattle.std.proofs.lemmas.Bool.{and_from, and_parts, le-leb, leb-true}
 use Rattle.std.proofs.lemmas.Str.Parse.{IsNumeralModel, digits_value_short, numerals_by_value, parse_gives, tells_all_ascii_digits}
 use Rattle.std.proofs.lemmas.Str.{digit_value_digit}
 use Rattle.std.specs.Char.{digit_value}
-use Rattle.std.specs.List.{list_all}
-use Rattle.std.specs.Prelude.{Result}
 use Rattle.std.specs.Str.Parse.{ParsesUnsigned, digits_value, digits_value_after}
-use Rattle.std.specs.Str.{all_ascii_digits}
 
 same_digits : (word : List ℕ) → list_all is_decimal_digit word ≡ all_ascii_digits word
 same_digits [] = refl

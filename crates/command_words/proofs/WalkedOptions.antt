@@ -1,17 +1,9 @@
 -- What `clap` makes of the words of the options, word by word.
-use Rattle.clap.specs.Faults.{bundle_fault, check_fault, defaults_fault, entered_fault, flags_fault, long_fault, option_fault, react_fault, settle_fault, step_fault, turn_fault, walk_fault}
-use Rattle.clap.specs.Kinds.{Kinds, or_else}
-use Rattle.clap.specs.Lexer.{long_of, short_of}
-use Rattle.clap.specs.Simple.{Shape, built, entered}
-use Rattle.clap.specs.Walk.{Held, Row, Rule, Text, Waiting, Walk, arg_by_long, bundle_met, finished, idle, nothing_held, option, plain_word, positional, settled, short_word, takes_values, walk, walk_from, walked}
-use Rattle.clap.specs.declared.error.kind.ErrorKind.TheVariants.{TooManyValues, UnknownArgument}
+use Rattle.command_words.proofs.Prelude.{Bool, Held, Kinds, List, None, Option, Options, Row, Rule, Shape, Some, Text, TooManyValues, UnknownArgument, Waiting, Walk, [], ap, arg_by_long, built, bundle_fault, bytes_eq, chars, check_fault, codes, entered, entered_fault, false, finished, fold, has_end_mark, idle, if◌then◌else◌, is_some, long_fault, long_of, nothing_held, option, option_fault, option_name, option_value, options_app, options_from, options_read, or_else, plain_word, positional, react_fault, refl, settle_fault, settled, short_of, short_word, slice_get, step_fault, sym, takes_values, true, true≢false, turn_fault, unless_refused, walk, walk_from, ℕ, ◌==◌, ◌||◌, ◌∙◌, ◌∷◌, ◌≡◌}
+use Rattle.clap.specs.Faults.{defaults_fault, flags_fault, walk_fault}
+use Rattle.clap.specs.Walk.{bundle_met, walked}
 use Rattle.command_words.proofs.WordShapes.{Looks, long, looks, other, short}
-use Rattle.command_words.specs.OptionGrammar.{option_name, option_value}
-use Rattle.command_words.specs.OptionWords.{has_end_mark, options_app, options_from, options_read, unless_refused}
-use Rattle.command_words.specs.declared.command_lines.Options.{Options}
-use Rattle.std.proofs.Common.{Bool, List, None, Option, Some, [], ap, codes, false, fold, if◌then◌else◌, is_some, refl, slice_get, sym, true, true≢false, ℕ, ◌==◌, ◌||◌, ◌∙◌, ◌∷◌, ◌≡◌}
 use Rattle.std.specs.List.{fold}
-use Rattle.std.specs.Str.{bytes_eq, chars}
 
 -- the command as it is built, and its arguments
 abbrev pub Top : Shape

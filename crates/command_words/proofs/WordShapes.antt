@@ -1,10 +1,6 @@
 -- What a word looks like to `clap`, and what its name is then.
-use Rattle.clap.specs.Lexer.{long_of, short_of}
-use Rattle.command_words.specs.OptionGrammar.{is_equals, option_name, option_value}
-use Rattle.std.proofs.Common.{Bool, List, None, Some, [], ap, arith, codes, false, if◌then◌else◌, one-add, refl, suc, subst, sym, take, drop, true, ℕ, ◌+◌, ◌==◌, ◌≡◌, ◌∙◌, ◌∷◌}
+use Rattle.command_words.proofs.Prelude.{Bool, List, None, Some, [], after_first, ap, arith, bytes_eq, codes, drop, false, if◌then◌else◌, is_equals, list_any, long_of, one-add, option_name, option_value, position_or_len, refl, short_of, subst, suc, sym, take, true, ℕ, ◌+◌, ◌==◌, ◌∙◌, ◌∷◌, ◌≡◌}
 use Rattle.std.proofs.lemmas.Bool.Decides.{Decides-eqb}
-use Rattle.std.specs.List.{after_first, list_any, position_or_len}
-use Rattle.std.specs.Str.{bytes_eq}
 
 -- no option has this name
 pub record IsNoOption (name : List ℕ) : Type 0 where

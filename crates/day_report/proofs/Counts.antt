@@ -1,9 +1,6 @@
 -- How many runs of some windows committed and were aborted, window by window.
-use Rattle.day_report.specs.Days.{abort_count, commit_count, is_abort, is_commit}
-use Rattle.history_book.specs.declared.records.WindowRecord.{WindowRecord}
-use Rattle.std.proofs.Common.{List, [], ap, get_or, length, refl, sym, take, ℕ, ◌+◌, ◌<◌, ◌∙◌, ◌≡◌}
+use Rattle.day_report.proofs.Prelude.{List, WindowRecord, [], abort_count, ap, commit_count, count_by, get_or, is_abort, is_commit, length, refl, sym, take, ℕ, ◌+◌, ◌<◌, ◌∙◌, ◌≡◌}
 use Rattle.std.proofs.lemmas.List.Sums.{sum_by_more}
-use Rattle.std.specs.List.{count_by}
 
 pub no_commits : commit_count [] ≡ 0
 unfolding commit_count

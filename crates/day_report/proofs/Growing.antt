@@ -1,7 +1,5 @@
 -- A text that grows by a piece for each element of a list.
-use Rattle.std.proofs.Common.{List, [], add-zero, ap, arith, get_or, length, suc, sym, take, ℕ, ◌+◌, ◌++◌, ◌<◌, ◌∙◌, ◌≡◌, ◌∷◌}
-use Rattle.std.proofs.lemmas.List.{append-nil, flat_map_more, length-take-le, take_more}
-use Rattle.std.specs.List.{enumerate_from, flat_map}
+use Rattle.day_report.proofs.Prelude.{List, [], add-zero, ap, append-nil, arith, enumerate_from, flat_map, flat_map_more, get_or, length, length-take-le, suc, sym, take, take_more, ℕ, ◌++◌, ◌+◌, ◌<◌, ◌∙◌, ◌∷◌, ◌≡◌}
 
 -- before the first piece
 pub no_piece : {A : Type 0} (start : List A) → start ≡ start ++ []

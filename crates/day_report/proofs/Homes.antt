@@ -1,7 +1,5 @@
 -- Where the devices of a home stand.
-use Rattle.home_types.specs.HomeStates.{nowhere, stand_at}
-use Rattle.home_types.specs.declared.worlds.Stand.{Stand}
-use Rattle.std.proofs.Common.{List, None, ap, false, slice_get, sym, unwrap_or, ℕ, ◌∙◌, ◌≡◌}
+use Rattle.day_report.proofs.Prelude.{List, None, Stand, ap, false, nowhere, slice_get, stand_at, sym, unwrap_or, ℕ, ◌∙◌, ◌≡◌}
 use Rattle.std.proofs.lemmas.Option.{unwrap_or-slice_get}
 
 -- a device that is not in the home stands nowhere

@@ -1,6 +1,7 @@
 mod Counts
 mod Growing
 mod Homes
+mod Prelude
 mod RunParts
 mod WorkedDays
 pub mod Cited

@@ -1,21 +1,8 @@
 -- The line of a run is told by its own entries alone.
-use Rattle.day_report.specs.Lines.{answer_word, answer_words, end_text, line_of_run}
-use Rattle.day_report.specs.RunEntries.{AreApart, entries_of_run, run_told_of}
-use Rattle.day_report.specs.Words.{routine_name}
-use Rattle.history_book.specs.Books.{end_in, end_of, first_told}
-use Rattle.history_book.specs.declared.entries.End.TheVariants.{Aborted, Committed}
+use Rattle.day_report.proofs.Prelude.{Aborted, AreApart, Arrived, Bool, Committed, Did, Doomed, Ended, Entry, Fell, List, None, Option, Placed, Rose, Script, Some, Undid, WindowText, [], answer_word, answer_words, ap, codes, cond, decimal, end_in, end_of, end_text, entries_of_run, false, filter, first_told, flat_map, get_or, get_or_default, length, line_of_run, refl, routine_name, run_told_of, sym, true, ℕ, ◌++◌, ◌+◌, ◌<◌, ◌==◌, ◌∙◌, ◌∷◌, ◌≡◌}
 use Rattle.history_book.specs.declared.entries.End.{End}
-use Rattle.history_book.specs.declared.entries.Entry.TheVariants.{Arrived, Did, Doomed, Ended, Fell, Placed, Rose, Undid}
-use Rattle.history_book.specs.declared.entries.Entry.{Entry}
 use Rattle.history_book.specs.declared.entries.Kept.{Kept}
-use Rattle.routine_reader.specs.declared.scripts.Script.{Script}
-use Rattle.routine_reader.specs.declared.scripts.WindowText.{WindowText}
-use Rattle.std.proofs.Common.{Bool, List, None, Option, Some, [], ap, cond, false, filter, get_or, length, refl, sym, true, ℕ, ◌++◌, ◌+◌, ◌<◌, ◌∙◌, ◌∷◌, ◌≡◌}
-use Rattle.std.proofs.lemmas.List.{get_or_default}
-use Rattle.std.specs.Fmt.{decimal}
-use Rattle.std.specs.List.{flat_map}
 use Rattle.std.specs.Option.{option_or}
-use Rattle.std.specs.Prelude.{codes, ◌==◌}
 
 -- elements that give no piece may be left out
 pub flat_map-filter : {X A : Type 0} (f : X → List A) (test : X → Bool) → ((x : X) → test x ≡ false → f x ≡ []) → (xs : List X) → flat_map f (filter test xs) ≡ flat_map f xs

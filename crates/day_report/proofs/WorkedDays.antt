@@ -1,15 +1,9 @@
 -- Days of worked cases with the texts that are wanted of them: the definition of a day's text computes to each, byte by byte.
 -- They have each kind of entry, answer, cause and item, also those that no program writes yet.
 use Rattle.command_rules.specs.Rosters.{device_no, run_no}
-use Rattle.day_report.specs.Days.{abort_count, commit_count, day_text, day_text_from, head_text, total_text, window_lines, window_text, window_texts_from}
-use Rattle.day_report.specs.Lines.{window_line, time_text, four_digits, two_digits, trace_lines, trace_line, entry_text, run_lines, line_of_run, end_text, answer_words, answer_word, order_line, item_words, item_word, home_line, home_words, home_word}
-use Rattle.day_report.specs.Words.{device_name, device_of, states_of, routine_name, value_text, answer_text, cause_text}
+use Rattle.day_report.proofs.Prelude.{Aborted, Arrived, Committed, Did, Doomed, Ended, Entry, Fell, List, None, Placed, Rose, Script, Stand, Undid, WindowRecord, WindowText, [], abort_count, answer_text, answer_word, answer_words, cause_text, codes, commit_count, day_text, day_text_from, device_name, device_of, end_text, entry_text, false, four_digits, head_text, home_line, home_word, home_words, item_word, item_words, line_of_run, map, order_line, refl, routine_name, run_lines, states_of, time_text, total_text, trace_line, trace_lines, true, two_digits, value_text, window_line, window_lines, window_text, window_texts_from, ℕ, ◌++◌, ◌∷◌, ◌≡◌}
 use Rattle.history_book.specs.Histories.{kept_by}
 use Rattle.history_book.specs.declared.entries.Cause.TheVariants.{DownAtEnd, Lost, MustDown, Refuted, Revoked}
-use Rattle.history_book.specs.declared.entries.End.TheVariants.{Aborted, Committed}
-use Rattle.history_book.specs.declared.entries.Entry.TheVariants.{Arrived, Did, Doomed, Ended, Fell, Placed, Rose, Undid}
-use Rattle.history_book.specs.declared.entries.Entry.{Entry}
-use Rattle.history_book.specs.declared.records.WindowRecord.{WindowRecord}
 use Rattle.home_types.specs.declared.commands.Answer.TheVariants.{Down, Fine, Found}
 use Rattle.home_types.specs.declared.commands.Command.{Command}
 use Rattle.home_types.specs.declared.commands.Guard.TheVariants.{Always}
@@ -21,13 +15,9 @@ use Rattle.home_types.specs.declared.kinds.Kind.TheVariants.{Range, States}
 use Rattle.home_types.specs.declared.modes.Mode.{Mode}
 use Rattle.home_types.specs.declared.modes.Scheduler.TheVariants.{Fcfs, JustInTime, Timeline}
 use Rattle.home_types.specs.declared.modes.Visibility.TheVariants.{Eventual, Global, Partitioned, Weak}
-use Rattle.home_types.specs.declared.worlds.Stand.{Stand}
 use Rattle.routine_reader.specs.declared.scripts.DeviceText.{DeviceText}
 use Rattle.routine_reader.specs.declared.scripts.RoutineText.{RoutineText}
-use Rattle.routine_reader.specs.declared.scripts.Script.{Script}
-use Rattle.routine_reader.specs.declared.scripts.WindowText.{WindowText}
 use Rattle.std.specs.Fmt.{digits}
-use Rattle.std.specs.Prelude.{List, None, [], codes, false, map, refl, true, ℕ, ◌++◌, ◌∷◌, ◌≡◌}
 
 abbrev pub on : ℕ → Job → Command
 on device job = record { device = device_no device; job = job; when = Always; must = true; ms = 100; takes = 100 }

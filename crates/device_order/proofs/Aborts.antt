@@ -4,16 +4,7 @@ use Rattle.device_order.proofs.Effects.{Alike, alike, overwritten}
 use Rattle.device_order.proofs.Lists.{walk_join, end_join}
 use Rattle.device_order.proofs.Monotone.{ends_below}
 use Rattle.device_order.proofs.Parts.{Cut, cut}
-use Rattle.device_order.specs.Invariant.{DeviceFits, DeviceInvariant}
-use Rattle.device_order.specs.Records.{DeviceRecord, walk_start}
-use Rattle.device_order.specs.Usages.{holds_grip, is_in_effect, stage_is_doomed}
-use Rattle.device_order.specs.Walks.{WalkHolds, WalkState, after_usage, has, walk_end}
-use Rattle.device_order.specs.declared.records.OrderEntry.TheVariants.{Used}
-use Rattle.device_order.specs.declared.records.OrderEntry.{OrderEntry}
-use Rattle.device_order.specs.declared.records.Usage.{Usage}
-use Rattle.std.proofs.Common.{◌≡◌, Bool, true, false, List, ◌∷◌, ◌++◌, arith, refl, sym, subst}
-use Rattle.std.proofs.lemmas.Grind.{common_steps}
-use Rattle.std.specs.Prelude.{◌&&◌, not}
+use Rattle.device_order.proofs.Prelude.{Bool, DeviceFits, DeviceInvariant, DeviceRecord, List, OrderEntry, Usage, Used, WalkHolds, WalkState, after_usage, arith, common_steps, false, has, holds_grip, is_in_effect, not, refl, stage_is_doomed, subst, sym, true, walk_end, walk_start, ◌&&◌, ◌++◌, ◌∷◌, ◌≡◌}
 
 -- an aborted run is gone
 

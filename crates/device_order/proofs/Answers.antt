@@ -2,23 +2,8 @@ use Rattle.device_order.proofs.Effects.{Tidy, tidy, home_free}
 use Rattle.device_order.proofs.Lists.{has_event, has_at}
 use Rattle.device_order.proofs.Parts.{Cut, cut, Put, put}
 use Rattle.device_order.proofs.Suffix.{Idle, blocks, blind, came, Came}
-use Rattle.device_order.specs.Changes.{IsAnswered, first_read}
-use Rattle.device_order.specs.Invariant.{DeviceFits, DeviceInvariant}
-use Rattle.device_order.specs.Records.{DeviceRecord, walk_after, walk_start}
-use Rattle.device_order.specs.Usages.{awaits_first, holds_command, holds_grip, is_up, spans_up, stage_is_doomed, stage_is_open}
-use Rattle.device_order.specs.Walks.{UsageFits, WalkHolds, WalkState, after_usage, has, is_home, walk_end, with_event}
-use Rattle.device_order.specs.declared.records.Event.TheVariants.{Failure}
-use Rattle.device_order.specs.declared.records.HeldGrip.TheVariants.{Free, Reads}
-use Rattle.device_order.specs.declared.records.OrderEntry.TheVariants.{Used}
-use Rattle.device_order.specs.declared.records.OrderEntry.{OrderEntry}
-use Rattle.device_order.specs.declared.records.Probe.{Probe}
-use Rattle.device_order.specs.declared.records.RunStage.{RunStage}
-use Rattle.device_order.specs.declared.records.Usage.{Usage}
-use Rattle.home_types.specs.declared.commands.View.TheVariants.{Down, Up}
-use Rattle.home_types.specs.declared.commands.View.{View}
-use Rattle.std.proofs.Common.{◌≡◌, ℕ, Bool, true, false, List, ◌∷◌, ◌++◌, arith, refl, ap, ◌∙◌, sym, subst, Option, Some, None}
-use Rattle.std.proofs.lemmas.Grind.{common_steps}
-use Rattle.std.specs.Prelude.{◌&&◌, not, is_some}
+use Rattle.device_order.proofs.Prelude.{Bool, DeviceFits, DeviceInvariant, DeviceRecord, Failure, Free, IsAnswered, List, None, Option, OrderEntry, Probe, Reads, RunStage, Some, Up, Usage, UsageFits, Used, View, WalkHolds, WalkState, after_usage, ap, arith, awaits_first, common_steps, false, first_read, has, holds_command, holds_grip, is_home, is_some, is_up, not, refl, spans_up, stage_is_doomed, stage_is_open, subst, sym, true, walk_after, walk_end, walk_start, with_event, ℕ, ◌&&◌, ◌++◌, ◌∙◌, ◌∷◌, ◌≡◌}
+use Rattle.home_types.specs.declared.commands.View.TheVariants.{Down}
 
 pub tidy_front : (up : Bool) (v : ℕ) (a : List OrderEntry) → WalkHolds (walk_start up v) a → Tidy (walk_end (walk_start up v) a)
 tidy_front up v a k = tidy (walk_start up v) a (record { settled = λ h. refl; spanned = λ h. absurd (no h); waiting = λ h. absurd (no h); exposed = λ h g. refl }) k

@@ -1,12 +1,5 @@
 -- A walk of which less is seen than of another one.
-use Rattle.device_order.specs.Usages.{awaits_first, has_committed_write, has_uncommitted_write, is_restart, spans_up, stage_is_open}
-use Rattle.device_order.specs.Walks.{UsageFits, WalkHolds, WalkState, after_usage, grip_out_after, is_command_out, is_home, walk_end}
-use Rattle.device_order.specs.declared.records.OrderEntry.TheVariants.{Occurred, Used}
-use Rattle.device_order.specs.declared.records.OrderEntry.{OrderEntry}
-use Rattle.device_order.specs.declared.records.Usage.{Usage}
-use Rattle.std.proofs.Common.{Bool, List, Some, [], ap, arith, false, refl, subst, sym, true, ℕ, ◌∙◌, ◌∷◌, ◌≡◌}
-use Rattle.std.proofs.lemmas.Grind.{common_steps}
-use Rattle.std.specs.Prelude.{◌&&◌, ◌||◌, not, is_some}
+use Rattle.device_order.proofs.Prelude.{Bool, List, Occurred, OrderEntry, Some, Usage, UsageFits, Used, WalkHolds, WalkState, [], after_usage, ap, arith, awaits_first, common_steps, false, grip_out_after, has_committed_write, has_uncommitted_write, is_command_out, is_home, is_restart, is_some, not, refl, spans_up, stage_is_open, subst, sym, true, walk_end, ℕ, ◌&&◌, ◌||◌, ◌∙◌, ◌∷◌, ◌≡◌}
 
 -- what fits behind s fits behind t. Where a write is exposed, the value may differ: no read stands behind it before a committed write
 pub record Below (s t : WalkState) : Type 0 where

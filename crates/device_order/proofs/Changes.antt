@@ -8,11 +8,7 @@ use Rattle.device_order.proofs.Aborts.{abort}
 use Rattle.device_order.proofs.Downs.{down_again, down_first}
 use Rattle.device_order.proofs.Placings.{place}
 use Rattle.device_order.proofs.Undos.{undo_go, drop_undo, undo_ok, undo_dead}
-use Rattle.device_order.specs.Changes.{CommandOut, DeviceChange, DeviceRestarted, DownAgain, DownFirst, FirstAccessDied, GuardSkipped, LaterAccessDied, ProbeDied, ProbeDiedUnderRun, ProbeFoundDown, ProbeFoundUp, ProbeOut, ReadAnswered, RunAborted, RunCommitted, RunDoomed, RunPlaced, UndoAnswered, UndoDied, UndoDropped, UndoOut, WriteAnswered}
-use Rattle.device_order.specs.Invariant.{DeviceInvariant}
-use Rattle.device_order.specs.Records.{DeviceRecord}
-use Rattle.device_order.specs.Usages.{holds_command}
-use Rattle.std.proofs.Common.{◌∙◌, ap}
+use Rattle.device_order.proofs.Prelude.{CommandOut, DeviceChange, DeviceInvariant, DeviceRecord, DeviceRestarted, DownAgain, DownFirst, FirstAccessDied, GuardSkipped, LaterAccessDied, ProbeDied, ProbeDiedUnderRun, ProbeFoundDown, ProbeFoundUp, ProbeOut, ReadAnswered, RunAborted, RunCommitted, RunDoomed, RunPlaced, UndoAnswered, UndoDied, UndoDropped, UndoOut, WriteAnswered, ap, holds_command, ◌∙◌}
 
 -- each kind of change keeps the invariant
 pub keeps : (d e : DeviceRecord) → DeviceChange d e → DeviceInvariant d → DeviceInvariant e

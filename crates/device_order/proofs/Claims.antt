@@ -1,20 +1,7 @@
 -- What the invariant of a device says of two uses, one behind the other.
 use Rattle.device_order.proofs.Answers.{read_finds}
 use Rattle.device_order.proofs.Parts.{Cut, cut}
-use Rattle.device_order.specs.Changes.{is_calm}
-use Rattle.device_order.specs.Claims.{ReadFinds}
-use Rattle.device_order.specs.Invariant.{DeviceInvariant}
-use Rattle.device_order.specs.Records.{DeviceRecord, new_device, walk_after, walk_start}
-use Rattle.device_order.specs.Usages.{awaits_first, has_committed_write, has_pending, has_uncommitted_write, has_used_device, holds_command, is_in_effect, is_restart, spans_up, stage_is_open}
-use Rattle.device_order.specs.Walks.{UsageFits, WalkHolds, WalkState, after_usage, effective, has, is_command_out, is_write_settled, walk_end, written_or_first}
-use Rattle.device_order.specs.declared.records.HeldGrip.TheVariants.{Reads}
-use Rattle.device_order.specs.declared.records.OrderEntry.TheVariants.{Occurred, Used}
-use Rattle.device_order.specs.declared.records.OrderEntry.{OrderEntry}
-use Rattle.device_order.specs.declared.records.Usage.{Usage}
-use Rattle.std.proofs.Common.{◌≡◌, ℕ, Bool, true, false, List, [], ◌∷◌, ◌++◌, arith, refl, ap, ◌∙◌, sym, subst, Option, Some, None}
-use Rattle.std.proofs.lemmas.Bool.{or_from}
-use Rattle.std.proofs.lemmas.Grind.{common_steps}
-use Rattle.std.specs.Prelude.{◌&&◌, ◌||◌, not, is_some, if◌then◌else◌}
+use Rattle.device_order.proofs.Prelude.{Bool, DeviceInvariant, DeviceRecord, List, None, Occurred, Option, OrderEntry, ReadFinds, Reads, Some, Usage, UsageFits, Used, WalkHolds, WalkState, [], after_usage, ap, arith, awaits_first, common_steps, effective, false, has, has_committed_write, has_pending, has_uncommitted_write, has_used_device, holds_command, if◌then◌else◌, is_calm, is_command_out, is_in_effect, is_restart, is_some, is_write_settled, new_device, not, or_from, refl, spans_up, stage_is_open, subst, sym, true, walk_after, walk_end, walk_start, written_or_first, ℕ, ◌&&◌, ◌++◌, ◌||◌, ◌∙◌, ◌∷◌, ◌≡◌}
 
 pub opened_stays : (s : WalkState) (m : List OrderEntry) → s.opened ≡ true → (walk_end s m).opened ≡ true
 unfolding walk_end

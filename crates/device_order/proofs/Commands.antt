@@ -3,19 +3,7 @@ use Rattle.device_order.proofs.Effects.{out_free}
 use Rattle.device_order.proofs.Lists.{has_front, has_back, has_head, opened_end}
 use Rattle.device_order.proofs.Parts.{Cut, cut, Put, put}
 use Rattle.device_order.proofs.Suffix.{Idle, blocks}
-use Rattle.device_order.specs.Invariant.{DeviceFits, DeviceInvariant}
-use Rattle.device_order.specs.Records.{DeviceRecord, NothingIsOut, walk_after, walk_start}
-use Rattle.device_order.specs.declared.records.HeldGrip.{HeldGrip}
-use Rattle.device_order.specs.Usages.{holds_command, is_read, holds_grip, has_pending, is_seen_down}
-use Rattle.device_order.specs.Walks.{Home, UsageFits, WalkHolds, WalkState, after_usage, has, walk_end}
-use Rattle.device_order.specs.declared.records.OrderEntry.TheVariants.{Used}
-use Rattle.device_order.specs.declared.records.OrderEntry.{OrderEntry}
-use Rattle.device_order.specs.declared.records.Probe.TheVariants.{Unprobed}
-use Rattle.device_order.specs.declared.records.RunStage.TheVariants.{Pending}
-use Rattle.device_order.specs.declared.records.Usage.{Usage}
-use Rattle.std.proofs.Common.{◌≡◌, ℕ, true, false, List, ◌∷◌, ◌++◌, arith, sym, subst}
-use Rattle.std.proofs.lemmas.Grind.{common_steps}
-use Rattle.std.specs.Prelude.{◌&&◌, not, is_some}
+use Rattle.device_order.proofs.Prelude.{DeviceFits, DeviceInvariant, DeviceRecord, HeldGrip, Home, List, NothingIsOut, OrderEntry, Pending, Unprobed, Usage, UsageFits, Used, WalkHolds, WalkState, after_usage, arith, common_steps, false, has, has_pending, holds_command, holds_grip, is_read, is_seen_down, is_some, not, subst, sym, true, walk_after, walk_end, walk_start, ℕ, ◌&&◌, ◌++◌, ◌∷◌, ◌≡◌}
 
 go_fits : (s : WalkState) (c : Usage) (g : HeldGrip) → holds_command g ≡ true → c.stage ≡ Pending → is_seen_down c.view ≡ false → s.opened ≡ false → s.out ≡ Home → UsageFits s c → UsageFits s (record c { grip = g })
 go_fits s c g w p v o h f = grind (arith, common_steps)

@@ -7,22 +7,8 @@ use Rattle.device_order.proofs.Lists.{has_back, has_head}
 use Rattle.device_order.proofs.Monotone.{lowered}
 use Rattle.device_order.proofs.Parts.{Cut, cut, Put, put}
 use Rattle.device_order.proofs.Suffix.{Idle}
-use Rattle.device_order.specs.Changes.{IsAnswered}
-use Rattle.device_order.specs.Invariant.{DeviceFits, DeviceInvariant}
-use Rattle.device_order.specs.Records.{DeviceRecord, NothingIsOut, walk_start}
-use Rattle.device_order.specs.Usages.{awaits_first, has_pending, holds_grip, is_up, stage_is_open}
-use Rattle.device_order.specs.Walks.{Home, UsageFits, WalkHolds, WalkState, after_usage, has, walk_end}
-use Rattle.device_order.specs.declared.records.OrderEntry.TheVariants.{Used}
-use Rattle.device_order.specs.declared.records.OrderEntry.{OrderEntry}
-use Rattle.device_order.specs.declared.records.Probe.TheVariants.{Unprobed}
-use Rattle.device_order.specs.declared.records.Probe.{Probe}
-use Rattle.device_order.specs.declared.records.RunStage.TheVariants.{Pending}
-use Rattle.device_order.specs.declared.records.RunStage.{RunStage}
-use Rattle.device_order.specs.declared.records.Usage.{Usage}
+use Rattle.device_order.proofs.Prelude.{Bool, DeviceFits, DeviceInvariant, DeviceRecord, Home, IsAnswered, List, NothingIsOut, OrderEntry, Pending, Probe, RunStage, Some, Unprobed, Usage, UsageFits, Used, WalkHolds, WalkState, after_usage, arith, awaits_first, common_steps, false, has, has_pending, holds_grip, is_up, refl, stage_is_open, subst, sym, true, walk_end, walk_start, ℕ, ◌&&◌, ◌++◌, ◌∙◌, ◌∷◌, ◌≡◌}
 use Rattle.home_types.specs.declared.commands.View.TheVariants.{Down}
-use Rattle.std.proofs.Common.{◌≡◌, ℕ, Bool, true, false, List, ◌∷◌, ◌++◌, arith, refl, ◌∙◌, sym, subst, Some}
-use Rattle.std.proofs.lemmas.Grind.{common_steps}
-use Rattle.std.specs.Prelude.{◌&&◌}
 
 -- a command is answered Down with no call
 

@@ -1,13 +1,5 @@
 -- The writes of an order: which one is in effect, and what undos and grips leave of it.
-use Rattle.device_order.specs.Usages.{has_write, holds_grip, is_in_effect, is_restart, spans_up}
-use Rattle.device_order.specs.Walks.{Commands, GripOut, Home, Undo, UsageFits, WalkHolds, WalkState, after_usage, has, if_written, is_command_out, is_home, walk_end}
-use Rattle.device_order.specs.declared.records.OrderEntry.TheVariants.{Occurred, Used}
-use Rattle.device_order.specs.declared.records.OrderEntry.{OrderEntry}
-use Rattle.device_order.specs.declared.records.Usage.{Usage}
-use Rattle.std.proofs.Common.{◌≡◌, Bool, true, false, List, [], ◌∷◌, arith, refl, ap, ◌∙◌, sym, subst}
-use Rattle.std.proofs.lemmas.Bool.{both_ways, or_from, or_parts}
-use Rattle.std.proofs.lemmas.Grind.{common_steps}
-use Rattle.std.specs.Prelude.{◌||◌}
+use Rattle.device_order.proofs.Prelude.{Bool, Commands, GripOut, Home, List, Occurred, OrderEntry, Undo, Usage, UsageFits, Used, WalkHolds, WalkState, [], after_usage, ap, arith, both_ways, common_steps, false, has, has_write, holds_grip, if_written, is_command_out, is_home, is_in_effect, is_restart, or_from, or_parts, refl, spans_up, subst, sym, true, walk_end, ◌||◌, ◌∙◌, ◌∷◌, ◌≡◌}
 
 -- what of the last writes two walks share
 pub record Alike (s t : WalkState) : Type 0 where

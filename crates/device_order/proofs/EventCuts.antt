@@ -1,12 +1,5 @@
 -- Where an event goes into a line: at its end, or before a run that waits there.
-use Rattle.command_rules.specs.Rosters.{run_no}
-use Rattle.device_order.specs.LineChanges.{line_with_event, waits_at}
-use Rattle.device_order.specs.RunStates.{RunStates, rest}
-use Rattle.home_types.specs.declared.items.Item.{Item}
-use Rattle.home_types.specs.declared.items.Item.TheVariants.{Back, Failed, Ran}
-use Rattle.home_types.specs.declared.kinds.Kind.{Kind}
-use Rattle.std.proofs.Common.{Bool, List, [], ap, false, inl, inr, refl, true, ℕ, ◌++◌, ◌∙◌, ◌∷◌, ◌≡◌, ◌⊎◌}
-use Rattle.std.specs.Prelude.{if◌then◌else◌}
+use Rattle.device_order.proofs.Prelude.{Back, Bool, Failed, Item, Kind, List, Ran, RunStates, [], ap, false, if◌then◌else◌, inl, inr, line_with_event, refl, rest, run_no, true, waits_at, ℕ, ◌++◌, ◌∙◌, ◌∷◌, ◌≡◌, ◌⊎◌}
 
 -- where an event goes in: at the end, or before a run that waits
 pub record EventCut (kinds : List Kind) (states : RunStates) (d : ℕ) (i : Item) (line : List Item) : Type 0 where

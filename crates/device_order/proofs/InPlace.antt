@@ -1,37 +1,9 @@
 -- One run of a window changes in its place: what that is to each device, and to the window.
-use Rattle.command_rules.specs.Rosters.{commands_of, run_no}
+use Rattle.device_order.proofs.Prelude.{Answer, AnswersFit, AreHomed, Back, Bool, ChangesInPlace, Command, DeviceChange, DeviceInvariant, Event, EventsAreHomed, Failed, HeldGrip, IsStill, Item, KeepsAnswers, Kind, List, NoCommandFails, Occurred, Probe, Ran, RunDoomed, RunInvariant, RunStage, RunState, RunStates, SameBut, Some, Usage, UsageFits, Used, WalkState, WindowInvariant, WindowModel, [], answered_commands, ap, arith, blank, both_ways, commands_of, common_steps, device_record, doomed_stage, entries, entry_if, entry_of, eq-eqb, false, if◌then◌else◌, length, line_with_event, or_left, paired, refl, remaining, rest, run_no, stage_of, stand_at, subst, summary, summary_of, sym, true, usage, uses_device, waits_at, walk_end, walk_start, with_event, with_event_in, ℕ, ◌++◌, ◌<◌, ◌==◌, ◌∙◌, ◌∷◌, ◌≡◌, ◌≢◌, ◌≤◌}
 use Rattle.device_order.proofs.Changes.{keeps}
 use Rattle.device_order.proofs.LineEntries.{entries_changed, entries_event, entries_unmoved, used_at, uses_rest}
 use Rattle.device_order.proofs.NewAnswers.{doomed_if}
 use Rattle.device_order.proofs.Parts.{cut}
-use Rattle.device_order.specs.Changes.{DeviceChange, RunDoomed}
-use Rattle.device_order.specs.Invariant.{DeviceInvariant}
-use Rattle.device_order.specs.LineChanges.{SameBut, line_with_event, waits_at}
-use Rattle.device_order.specs.LineEntries.{entries, entry_if, entry_of, stage_of, usage}
-use Rattle.device_order.specs.LineOrders.{EventsAreHomed}
-use Rattle.device_order.specs.Records.{walk_start}
-use Rattle.device_order.specs.RunStates.{RunState, RunStates, answered_commands, paired, remaining, rest, summary_of, uses_device}
-use Rattle.device_order.specs.Summaries.{AnswersFit, AreHomed, NoCommandFails, blank, summary}
-use Rattle.device_order.specs.Usages.{doomed_stage}
-use Rattle.device_order.specs.Walks.{UsageFits, WalkState, walk_end, with_event}
-use Rattle.device_order.specs.WindowSteps.{ChangesInPlace, IsStill, KeepsAnswers, with_event_in}
-use Rattle.device_order.specs.Windows.{RunInvariant, WindowInvariant, WindowModel, device_record}
-use Rattle.device_order.specs.declared.records.Event.{Event}
-use Rattle.device_order.specs.declared.records.HeldGrip.{HeldGrip}
-use Rattle.device_order.specs.declared.records.OrderEntry.TheVariants.{Occurred, Used}
-use Rattle.device_order.specs.declared.records.Probe.{Probe}
-use Rattle.device_order.specs.declared.records.RunStage.{RunStage}
-use Rattle.device_order.specs.declared.records.Usage.{Usage}
-use Rattle.home_types.specs.HomeStates.{stand_at}
-use Rattle.home_types.specs.declared.commands.Answer.{Answer}
-use Rattle.home_types.specs.declared.commands.Command.{Command}
-use Rattle.home_types.specs.declared.items.Item.{Item}
-use Rattle.home_types.specs.declared.items.Item.TheVariants.{Back, Failed, Ran}
-use Rattle.home_types.specs.declared.kinds.Kind.{Kind}
-use Rattle.std.proofs.Common.{Bool, List, Some, [], ap, arith, false, length, refl, subst, sym, true, ℕ, ◌++◌, ◌<◌, ◌∙◌, ◌∷◌, ◌≡◌, ◌≢◌, ◌≤◌}
-use Rattle.std.proofs.lemmas.Bool.{both_ways, eq-eqb, or_left}
-use Rattle.std.proofs.lemmas.Grind.{common_steps}
-use Rattle.std.specs.Prelude.{if◌then◌else◌, ◌==◌}
 
 -- the device's list at a run that moves, and the list then
 pub entries_before : (kinds : List Kind) (s s' : WindowModel) (r d : ℕ) (m : ChangesInPlace s s' r) → uses_device d (s.states r).commands ≡ true → entries kinds s.states d s.line ≡ entries kinds s.states d m.front ++ Used (usage kinds (s.states r) d) ∷ entries kinds s.states d m.back

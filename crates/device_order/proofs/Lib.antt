@@ -1,4 +1,5 @@
 mod Lists
+mod Prelude
 mod Quiet
 mod Suffix
 mod Below

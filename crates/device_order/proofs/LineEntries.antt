@@ -1,23 +1,5 @@
 -- What inserting, removing and changing a run, and an event, do to the order of a device.
-use Rattle.command_rules.specs.Rosters.{run_no}
-use Rattle.device_order.specs.LineChanges.{Lacks, SameBut, line_with_event, waits_at}
-use Rattle.device_order.specs.LineEntries.{entries, entry_if, entry_of, stage_of, usage, with_order_entry}
-use Rattle.device_order.specs.RunStates.{RunStates, device_summary, remaining, rest, uses_device}
-use Rattle.device_order.specs.Usages.{awaits_first, stage_is_open}
-use Rattle.device_order.specs.Walks.{with_event}
-use Rattle.device_order.specs.declared.records.Event.{Event}
-use Rattle.device_order.specs.declared.records.Event.TheVariants.{Failure, Restart}
-use Rattle.device_order.specs.declared.records.OrderEntry.{OrderEntry}
-use Rattle.device_order.specs.declared.records.OrderEntry.TheVariants.{Occurred, Used}
-use Rattle.home_types.specs.declared.commands.Answer.{Answer}
-use Rattle.home_types.specs.declared.commands.Command.{Command}
-use Rattle.home_types.specs.declared.items.Item.{Item}
-use Rattle.home_types.specs.declared.items.Item.TheVariants.{Back, Failed, Ran}
-use Rattle.home_types.specs.declared.kinds.Kind.{Kind}
-use Rattle.std.proofs.Common.{Bool, List, None, Option, Some, [], ap, arith, false, not, refl, subst, sym, true, ℕ, ◌++◌, ◌∙◌, ◌∷◌, ◌≡◌}
-use Rattle.std.proofs.lemmas.Bool.{or_parts}
-use Rattle.std.proofs.lemmas.Grind.{common_steps}
-use Rattle.std.specs.Prelude.{if◌then◌else◌, is_some, ◌&&◌, ◌==◌}
+use Rattle.device_order.proofs.Prelude.{Answer, Back, Bool, Command, Event, Failed, Failure, Item, Kind, Lacks, List, None, Occurred, Option, OrderEntry, Ran, Restart, RunStates, SameBut, Some, Used, [], ap, arith, awaits_first, common_steps, device_summary, entries, entry_if, entry_of, false, if◌then◌else◌, is_some, line_with_event, not, or_parts, refl, remaining, rest, run_no, stage_is_open, stage_of, subst, sym, true, usage, uses_device, waits_at, with_event, with_order_entry, ℕ, ◌&&◌, ◌++◌, ◌==◌, ◌∙◌, ◌∷◌, ◌≡◌}
 
 with_join : (o : Option OrderEntry) (cs ds : List OrderEntry) → with_order_entry o (cs ++ ds) ≡ with_order_entry o cs ++ ds
 with_join None cs ds = refl

@@ -1,25 +1,7 @@
 -- Words on a line and on the order of a device that it makes.
-use Rattle.command_rules.specs.Rosters.{run_no}
+use Rattle.device_order.proofs.Prelude.{Back, Bool, CutAt, Failed, Failure, Item, Kind, Lacks, List, None, Occurred, Option, Ran, Restart, RunStates, RunsAreDistinct, Some, Usage, Used, [], and_from, and_parts, any_run, ap, arith, at_device, common_steps, device_summary, effective, entries, entry_if, false, has, has_used_device, if◌then◌else◌, is_calm, is_calm_line, is_in_effect, last_in_effect, not, option_map, or_parts, refl, run_no, standing_value_on, subst, sym, true, unwrap_or, usage, uses_device, walk_end, walk_start, with_order_entry, written_or_first, ℕ, ◌&&◌, ◌++◌, ◌==◌, ◌||◌, ◌∙◌, ◌∷◌, ◌≡◌, ◌≢◌}
 use Rattle.device_order.proofs.Claims.{effect}
-use Rattle.device_order.specs.Changes.{is_calm}
-use Rattle.device_order.specs.LineChanges.{Lacks}
-use Rattle.device_order.specs.LineEntries.{entries, entry_if, usage, with_order_entry}
-use Rattle.device_order.specs.LineWords.{CutAt, RunsAreDistinct, any_run, at_device, is_calm_line, last_in_effect, standing_value_on}
-use Rattle.device_order.specs.Records.{walk_start}
-use Rattle.device_order.specs.RunStates.{RunStates, device_summary, uses_device}
-use Rattle.device_order.specs.Usages.{has_used_device, is_in_effect}
-use Rattle.device_order.specs.Walks.{effective, has, walk_end, written_or_first}
-use Rattle.device_order.specs.declared.records.Event.TheVariants.{Failure, Restart}
-use Rattle.device_order.specs.declared.records.OrderEntry.TheVariants.{Occurred, Used}
-use Rattle.device_order.specs.declared.records.Usage.{Usage}
-use Rattle.home_types.specs.declared.items.Item.{Item}
-use Rattle.home_types.specs.declared.items.Item.TheVariants.{Back, Failed, Ran}
-use Rattle.home_types.specs.declared.kinds.Kind.{Kind}
-use Rattle.std.proofs.Common.{Bool, List, None, Option, Some, [], ap, arith, false, not, refl, subst, sym, true, ℕ, ◌++◌, ◌∙◌, ◌∷◌, ◌≡◌, ◌≢◌}
-use Rattle.std.proofs.lemmas.Bool.{and_from, and_parts, or_parts}
-use Rattle.std.proofs.lemmas.Grind.{common_steps}
 use Rattle.std.specs.Option.{option_map_or}
-use Rattle.std.specs.Prelude.{if◌then◌else◌, option_map, unwrap_or, ◌&&◌, ◌==◌, ◌||◌}
 
 -- a word over the entries is one over the line
 pub has_entries : (kinds : List Kind) (states : RunStates) (d : ℕ) (p : Usage → Bool) (is : List Item) → has p (entries kinds states d is) ≡ any_run (at_device kinds states d p) is

@@ -1,14 +1,5 @@
 -- The walk along an order of two parts.
-use Rattle.device_order.specs.declared.records.Event.{Event}
-use Rattle.device_order.specs.Usages.{awaits_first, has_pending, is_restart}
-use Rattle.device_order.specs.Walks.{WalkHolds, WalkState, after_entry, after_usage, has, walk_end, with_event}
-use Rattle.device_order.specs.declared.records.OrderEntry.TheVariants.{Occurred, Used}
-use Rattle.device_order.specs.declared.records.OrderEntry.{OrderEntry}
-use Rattle.device_order.specs.declared.records.Usage.{Usage}
-use Rattle.std.proofs.Common.{◌≡◌, Bool, true, false, List, [], ◌∷◌, ◌++◌, arith, refl, ap, ◌∙◌}
-use Rattle.std.proofs.lemmas.Bool.{or_left, or_parts, or_right}
-use Rattle.std.proofs.lemmas.Grind.{common_steps}
-use Rattle.std.specs.Prelude.{◌||◌, if◌then◌else◌}
+use Rattle.device_order.proofs.Prelude.{Bool, Event, List, Occurred, OrderEntry, Usage, Used, WalkHolds, WalkState, [], after_entry, after_usage, ap, arith, awaits_first, common_steps, false, has, has_pending, if◌then◌else◌, is_restart, or_left, or_parts, or_right, refl, true, walk_end, with_event, ◌++◌, ◌||◌, ◌∙◌, ◌∷◌, ◌≡◌}
 
 pub end_join : (s : WalkState) (a b : List OrderEntry) → walk_end s (a ++ b) ≡ walk_end (walk_end s a) b
 unfolding walk_end

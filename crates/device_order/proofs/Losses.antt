@@ -4,20 +4,7 @@ use Rattle.device_order.proofs.Claims.{opened_stays, untouched_behind, up_spanne
 use Rattle.device_order.proofs.Effects.{Tidy, none_lost, undo_last}
 use Rattle.device_order.proofs.Parts.{Cut, cut}
 use Rattle.device_order.proofs.Undos.{Undone, undone}
-use Rattle.device_order.specs.Invariant.{DeviceFits, DeviceInvariant}
-use Rattle.device_order.specs.Records.{DeviceRecord, walk_start}
-use Rattle.device_order.specs.Usages.{has_used_device, holds_command, is_restart, is_up, spans_up, stage_is_open}
-use Rattle.device_order.specs.Walks.{Undo, UsageFits, WalkHolds, WalkState, after_usage, has, is_command_out, walk_end}
-use Rattle.device_order.specs.declared.records.HeldGrip.TheVariants.{Undoes}
-use Rattle.device_order.specs.declared.records.OrderEntry.TheVariants.{Occurred, Used}
-use Rattle.device_order.specs.declared.records.OrderEntry.{OrderEntry}
-use Rattle.device_order.specs.declared.records.Probe.TheVariants.{Restores}
-use Rattle.device_order.specs.declared.records.Probe.{Probe}
-use Rattle.device_order.specs.declared.records.Usage.{Usage}
-use Rattle.std.proofs.Common.{Bool, List, [], ap, arith, false, refl, subst, sym, true, ℕ, ◌++◌, ◌∙◌, ◌∷◌, ◌≡◌}
-use Rattle.std.proofs.lemmas.Bool.{both_ways, or_from, or_parts}
-use Rattle.std.proofs.lemmas.Grind.{common_steps}
-use Rattle.std.specs.Prelude.{◌||◌}
+use Rattle.device_order.proofs.Prelude.{Bool, DeviceFits, DeviceInvariant, DeviceRecord, List, Occurred, OrderEntry, Probe, Restores, Undo, Undoes, Usage, UsageFits, Used, WalkHolds, WalkState, [], after_usage, ap, arith, both_ways, common_steps, false, has, has_used_device, holds_command, is_command_out, is_restart, is_up, or_from, or_parts, refl, spans_up, stage_is_open, subst, sym, true, walk_end, walk_start, ℕ, ◌++◌, ◌||◌, ◌∙◌, ◌∷◌, ◌≡◌}
 
 -- the walk has seen a run that spans where there is one
 pub spanned_has : (s : WalkState) (l : List OrderEntry) → (walk_end s l).spanned ≡ (s.spanned || has spans_up l)

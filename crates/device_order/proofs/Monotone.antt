@@ -2,17 +2,7 @@
 use Rattle.device_order.proofs.Below.{Below}
 use Rattle.device_order.proofs.Effects.{Alike}
 use Rattle.device_order.proofs.Parts.{Cut, cut, Lower, lower, likewise}
-use Rattle.device_order.specs.Invariant.{DeviceFits, DeviceInvariant}
-use Rattle.device_order.specs.Records.{DeviceRecord, walk_start}
-use Rattle.device_order.specs.Usages.{doomed_stage, holds_command}
-use Rattle.device_order.specs.Walks.{UsageFits, WalkHolds, WalkState, after_usage, walk_end}
-use Rattle.device_order.specs.declared.records.OrderEntry.TheVariants.{Used}
-use Rattle.device_order.specs.declared.records.OrderEntry.{OrderEntry}
-use Rattle.device_order.specs.declared.records.Probe.{Probe}
-use Rattle.device_order.specs.declared.records.RunStage.TheVariants.{Committed, Done, Pending}
-use Rattle.device_order.specs.declared.records.Usage.{Usage}
-use Rattle.std.proofs.Common.{◌≡◌, ℕ, Bool, false, List, ◌∷◌, ◌++◌, arith, subst}
-use Rattle.std.proofs.lemmas.Grind.{common_steps}
+use Rattle.device_order.proofs.Prelude.{Bool, Committed, DeviceFits, DeviceInvariant, DeviceRecord, Done, List, OrderEntry, Pending, Probe, Usage, UsageFits, Used, WalkHolds, WalkState, after_usage, arith, common_steps, doomed_stage, false, holds_command, subst, walk_end, walk_start, ℕ, ◌++◌, ◌∷◌, ◌≡◌}
 
 pub ends_below : (s t : WalkState) (up : Bool) (held : ℕ) (p : Probe) → Below s t → Alike s t → DeviceFits s up held p → DeviceFits t up held p
 ends_below s t up held p r q e = grind (arith, common_steps)

@@ -1,22 +1,6 @@
 -- What one more answer makes of a run.
 use Rattle.device_order.proofs.Runs.{fit_more, none_more, summary_more, then_here, then_there}
-use Rattle.device_order.specs.LineEntries.{stage_of, usage}
-use Rattle.device_order.specs.RunStates.{RunState, answered_commands, device_summary, paired, remaining, rest, summary_of, uses_device}
-use Rattle.device_order.specs.Summaries.{AnswersFit, AreHomed, DeviceSummary, FitsSummary, NoCommandFails, Summary, blank, device_summary_then, summary, summary_then}
-use Rattle.device_order.specs.Usages.{doomed_stage}
-use Rattle.device_order.specs.WindowSteps.{GetsAnswer}
-use Rattle.device_order.specs.Windows.{RunInvariant}
-use Rattle.device_order.specs.declared.records.HeldGrip.TheVariants.{Free}
-use Rattle.device_order.specs.declared.records.RunStage.{RunStage}
-use Rattle.home_types.specs.Commands.{driven, fails}
-use Rattle.home_types.specs.Kinds.{kind_at}
-use Rattle.home_types.specs.declared.commands.Answer.{Answer}
-use Rattle.home_types.specs.declared.commands.Command.{Command}
-use Rattle.home_types.specs.declared.kinds.Kind.{Kind}
-use Rattle.std.proofs.Common.{Bool, List, [], ap, arith, false, length, refl, subst, sym, true, ℕ, ◌++◌, ◌∙◌, ◌∷◌, ◌≡◌, ◌≢◌, ◌≤◌}
-use Rattle.std.proofs.lemmas.Bool.{both_ways, or_parts}
-use Rattle.std.proofs.lemmas.Grind.{common_steps}
-use Rattle.std.specs.Prelude.{◌==◌, ◌||◌}
+use Rattle.device_order.proofs.Prelude.{Answer, AnswersFit, AreHomed, Bool, Command, DeviceSummary, FitsSummary, Free, GetsAnswer, Kind, List, NoCommandFails, RunInvariant, RunStage, RunState, Summary, [], answered_commands, ap, arith, blank, both_ways, common_steps, device_summary, device_summary_then, doomed_stage, driven, fails, false, kind_at, length, or_parts, paired, refl, remaining, rest, stage_of, subst, summary, summary_of, summary_then, sym, true, usage, uses_device, ℕ, ◌++◌, ◌==◌, ◌||◌, ◌∙◌, ◌∷◌, ◌≡◌, ◌≢◌, ◌≤◌}
 
 pub rest_none : (cs : List Command) → remaining cs [] ≡ cs
 unfolding remaining

@@ -1,13 +1,6 @@
 -- The commands of a run with their answers.
 use Rattle.device_order.proofs.Runs.{then_there}
-use Rattle.device_order.specs.RunStates.{paired, uses_device}
-use Rattle.device_order.specs.Summaries.{Answered, Summary, pair_answer, pair_command, summary, summary_then}
-use Rattle.home_types.specs.declared.commands.Answer.{Answer}
-use Rattle.home_types.specs.declared.commands.Command.{Command}
-use Rattle.home_types.specs.declared.kinds.Kind.{Kind}
-use Rattle.std.proofs.Common.{Bool, List, [], ap, arith, false, length, map, refl, ℕ, ◌∙◌, ◌∷◌, ◌≡◌, ◌≢◌}
-use Rattle.std.proofs.lemmas.Grind.{common_steps}
-use Rattle.std.specs.Prelude.{◌==◌, ◌||◌}
+use Rattle.device_order.proofs.Prelude.{Answer, Answered, Bool, Command, Kind, List, Summary, [], ap, arith, common_steps, false, length, map, pair_answer, pair_command, paired, refl, summary, summary_then, uses_device, ℕ, ◌==◌, ◌||◌, ◌∙◌, ◌∷◌, ◌≡◌, ◌≢◌}
 
 pub commands_all : (cs : List Command) (xs : List Answer) → length xs ≡ length cs → map pair_command (paired cs xs) ≡ cs
 unfolding paired

@@ -3,14 +3,7 @@ use Rattle.device_order.proofs.Below.{Below, under}
 use Rattle.device_order.proofs.Effects.{Alike, alike}
 use Rattle.device_order.proofs.Lists.{end_join, walk_join, walk_front, walk_back}
 use Rattle.device_order.proofs.Suffix.{Idle, blocked, blocks}
-use Rattle.device_order.specs.Usages.{awaits_first}
-use Rattle.device_order.specs.Walks.{UsageFits, WalkHolds, WalkState, after_usage, walk_end}
-use Rattle.device_order.specs.declared.records.OrderEntry.TheVariants.{Used}
-use Rattle.device_order.specs.declared.records.OrderEntry.{OrderEntry}
-use Rattle.device_order.specs.declared.records.Usage.{Usage}
-use Rattle.std.proofs.Common.{◌≡◌, true, List, ◌∷◌, ◌++◌, arith, refl, ap, ◌∙◌, sym, subst}
-use Rattle.std.proofs.lemmas.Grind.{common_steps}
-use Rattle.std.specs.Prelude.{◌||◌}
+use Rattle.device_order.proofs.Prelude.{List, OrderEntry, Usage, UsageFits, Used, WalkHolds, WalkState, after_usage, ap, arith, awaits_first, common_steps, refl, subst, sym, true, walk_end, ◌++◌, ◌||◌, ◌∙◌, ◌∷◌, ◌≡◌}
 
 -- an order cut at a use
 pub record Cut (z : WalkState) (a : List OrderEntry) (c : Usage) (b : List OrderEntry) : Type 0 where

@@ -1,15 +1,7 @@
 -- A run is placed on a device.
 use Rattle.device_order.proofs.Lists.{walk_front, walk_back, walk_join, end_join}
 use Rattle.device_order.proofs.Suffix.{Idle, Calm, calm}
-use Rattle.device_order.specs.Changes.{is_calm, new_usage}
-use Rattle.device_order.specs.Invariant.{DeviceFits, DeviceInvariant}
-use Rattle.device_order.specs.Records.{DeviceRecord, walk_start}
-use Rattle.device_order.specs.Walks.{UsageFits, WalkHolds, WalkState, after_usage, walk_end}
-use Rattle.device_order.specs.declared.records.OrderEntry.TheVariants.{Used}
-use Rattle.device_order.specs.declared.records.OrderEntry.{OrderEntry}
-use Rattle.device_order.specs.declared.records.Probe.{Probe}
-use Rattle.std.proofs.Common.{◌≡◌, ℕ, Bool, true, false, List, ◌∷◌, ◌++◌, arith, sym, subst, Some, None}
-use Rattle.std.proofs.lemmas.Grind.{common_steps}
+use Rattle.device_order.proofs.Prelude.{Bool, DeviceFits, DeviceInvariant, DeviceRecord, List, None, OrderEntry, Probe, Some, UsageFits, Used, WalkHolds, WalkState, after_usage, arith, common_steps, false, is_calm, new_usage, subst, sym, true, walk_end, walk_start, ℕ, ◌++◌, ◌∷◌, ◌≡◌}
 
 -- a run is placed
 

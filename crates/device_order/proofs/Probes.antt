@@ -3,21 +3,7 @@ use Rattle.device_order.proofs.Answers.{tidy_front, Fell, fell}
 use Rattle.device_order.proofs.Effects.{Tidy, out_free, spanned_end}
 use Rattle.device_order.proofs.Parts.{Cut, cut, Put, put}
 use Rattle.device_order.proofs.Suffix.{Idle, blocks, came, Came}
-use Rattle.device_order.specs.Changes.{probe_for}
-use Rattle.device_order.specs.Invariant.{DeviceFits, DeviceInvariant}
-use Rattle.device_order.specs.Records.{DeviceRecord, NothingIsOut, walk_after, walk_start}
-use Rattle.device_order.specs.Usages.{doomed_stage, spans_up, stage_is_open}
-use Rattle.device_order.specs.Walks.{UsageFits, WalkState, after_usage, has, is_home, walk_end, with_event}
-use Rattle.device_order.specs.declared.records.Event.TheVariants.{Failure, Restart}
-use Rattle.device_order.specs.declared.records.OrderEntry.TheVariants.{Used}
-use Rattle.device_order.specs.declared.records.OrderEntry.{OrderEntry}
-use Rattle.device_order.specs.declared.records.Probe.TheVariants.{Asks, Restores, Unprobed}
-use Rattle.device_order.specs.declared.records.RunStage.{RunStage}
-use Rattle.device_order.specs.declared.records.Usage.{Usage}
-use Rattle.home_types.specs.declared.commands.View.{View}
-use Rattle.std.proofs.Common.{◌≡◌, ℕ, Bool, true, false, List, ◌∷◌, ◌++◌, arith, refl, ap, subst, Option}
-use Rattle.std.proofs.lemmas.Grind.{common_steps}
-use Rattle.std.specs.Prelude.{◌&&◌, not, is_some}
+use Rattle.device_order.proofs.Prelude.{Asks, Bool, DeviceFits, DeviceInvariant, DeviceRecord, Failure, List, NothingIsOut, Option, OrderEntry, Restart, Restores, RunStage, Unprobed, Usage, UsageFits, Used, View, WalkState, after_usage, ap, arith, common_steps, doomed_stage, false, has, is_home, is_some, not, probe_for, refl, spans_up, stage_is_open, subst, true, walk_after, walk_end, walk_start, with_event, ℕ, ◌&&◌, ◌++◌, ◌∷◌, ◌≡◌}
 
 go_ends : (e : WalkState) (up : Bool) (held : ℕ) → is_home e.out ≡ true → DeviceFits e up held Unprobed → DeviceFits e up held (probe_for up e.stand)
 go_ends e up held o x = grind (arith, common_steps)

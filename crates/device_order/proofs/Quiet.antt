@@ -1,13 +1,5 @@
 -- A use that has not touched the device has done nothing there.
-use Rattle.device_order.specs.Usages.{awaits_first, has_used_device, holds_command, is_up, stage_is_open}
-use Rattle.device_order.specs.Walks.{UsageFits, WalkState, after_usage, is_command_out}
-use Rattle.device_order.specs.declared.records.HeldGrip.TheVariants.{Free}
-use Rattle.device_order.specs.declared.records.HeldGrip.{HeldGrip}
-use Rattle.device_order.specs.declared.records.Usage.{Usage}
-use Rattle.home_types.specs.declared.commands.View.{View}
-use Rattle.std.proofs.Common.{◌≡◌, ℕ, true, false, arith, Option, None}
-use Rattle.std.proofs.lemmas.Grind.{common_steps}
-use Rattle.std.specs.Prelude.{◌||◌, is_some}
+use Rattle.device_order.proofs.Prelude.{Free, HeldGrip, None, Option, Usage, UsageFits, View, WalkState, after_usage, arith, awaits_first, common_steps, false, has_used_device, holds_command, is_command_out, is_some, is_up, stage_is_open, true, ℕ, ◌||◌, ◌≡◌}
 
 -- a run without an answer and without a command that is out has nothing
 pub record Quiet (c : Usage) : Type 0 where

@@ -1,22 +1,10 @@
 -- A run whose answers fit one another is executed serially with them.
-use Rattle.device_order.specs.Summaries.{Answered, AnswerFits, AnswersFit, AreHomed, DeviceSummary, FitsSummary, MeetsStand, MeetsHome, NoCommandFails, Summary, pair_answer, blank, pair_command, device_summary_then, first_view, overwritten, summary, summary_then, was_done}
-use Rattle.device_order.specs.Usages.{is_seen_down, is_up}
-use Rattle.home_types.specs.Commands.{Effect, Execution, command_effect, done_effect, driven, execute, fails, holds, reads, register_after, with_effect}
-use Rattle.home_types.specs.HomeStates.{stand_at}
-use Rattle.home_types.specs.Kinds.{kind_at}
+use Rattle.device_order.proofs.Prelude.{Answer, AnswerFits, Answered, AnswersFit, AreHomed, Bool, DeviceSummary, Effect, Execution, FitsSummary, Kind, List, MeetsHome, MeetsStand, NoCommandFails, None, Option, Some, Stand, Summary, Up, View, [], ap, append-nil, append_assoc, arith, blank, command_effect, common_steps, device_summary_then, done_effect, driven, execute, fails, false, first_view, fold, holds, if◌then◌else◌, inl, inr, is_seen_down, is_some, is_up, kind_at, length, length-set, map, or_from, overwritten, pair_answer, pair_command, reads, refl, register_after, set, slice_set, stand_at, subst, suc, summary, summary_then, sym, true, was_done, with_effect, zero, ℕ, ◌++◌, ◌<◌, ◌==◌, ◌||◌, ◌∙◌, ◌∷◌, ◌≡◌, ◌≢◌, ◌⊎◌}
 use Rattle.home_types.specs.declared.commands.Answer.TheVariants.{Down, Fine, Found, Skipped}
-use Rattle.home_types.specs.declared.commands.Answer.{Answer}
 use Rattle.home_types.specs.declared.commands.Guard.{Guard}
 use Rattle.home_types.specs.declared.commands.Job.TheVariants.{Check, Load, Set, Store}
 use Rattle.home_types.specs.declared.commands.Job.{Job}
-use Rattle.home_types.specs.declared.commands.View.TheVariants.{Down as ViewDown, Up}
-use Rattle.home_types.specs.declared.commands.View.{View}
-use Rattle.home_types.specs.declared.kinds.Kind.{Kind}
-use Rattle.home_types.specs.declared.worlds.Stand.{Stand}
-use Rattle.std.proofs.Common.{Bool, List, None, Option, Some, [], ap, append-nil, append_assoc, arith, false, fold, inl, inr, length, length-set, map, refl, set, subst, suc, sym, true, zero, ℕ, ◌++◌, ◌<◌, ◌≡◌, ◌≢◌, ◌⊎◌, ◌∙◌, ◌∷◌}
-use Rattle.std.proofs.lemmas.Bool.{or_from}
-use Rattle.std.proofs.lemmas.Grind.{common_steps}
-use Rattle.std.specs.Prelude.{if◌then◌else◌, is_some, slice_set, ◌==◌, ◌||◌}
+use Rattle.home_types.specs.declared.commands.View.TheVariants.{Down as ViewDown}
 
 -- the effect of a job with this answer, where the device is as the run's answers say
 abbrev pub effect_of : Kind → Job → ℕ → DeviceSummary → Stand → Answer → Effect

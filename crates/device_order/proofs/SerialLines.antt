@@ -1,32 +1,9 @@
 -- The committed part of a line is a serial execution.
-use Rattle.command_rules.specs.Rosters.{Run, commands_of}
-use Rattle.command_rules.specs.Serial.{SerialRun, Served, serve}
+use Rattle.device_order.proofs.Prelude.{Answer, AreHomed, Back, Bool, DeviceSummary, EntryFits, Event, EventsAreHomed, Execution, Failed, Failure, IsAllAnswered, Item, Kind, LineIsSerial, List, MeetsStand, None, Occurred, Option, OrderEntry, Ran, Restart, Run, RunState, RunStates, SerialRun, Served, Some, Stand, Usage, Used, WalkHolds, WalkState, [], after_entry, answered_commands, ap, append-nil, append_assoc, arith, blank, commands_of, common_steps, counts_serially, device_summary, entries, entry_if, entry_of, false, fold, if◌then◌else◌, inl, inr, is_restart, is_some, is_up, length, length-set, not, or_from, overwritten, refl, rest, routine_execution, serial_order, serve, served, stage_is_committed, stage_of, stand_at, subst, summary_of, sym, true, unanswered, usage, uses_device, walk_end, walk_stand, with_order_entry, with_up, ℕ, ◌++◌, ◌<◌, ◌==◌, ◌||◌, ◌∙◌, ◌∷◌, ◌≡◌, ◌≢◌}
 use Rattle.device_order.proofs.Paired.{answers_all, commands_all, unused_there}
 use Rattle.device_order.proofs.Runs.{Executes, serves, stand_at_set}
-use Rattle.device_order.specs.LineEntries.{entries, entry_if, entry_of, stage_of, usage, with_order_entry}
-use Rattle.device_order.specs.LineOrders.{EventsAreHomed, LineIsSerial, serial_order, served, walk_stand}
-use Rattle.device_order.specs.RunStates.{IsAllAnswered, RunState, RunStates, answered_commands, device_summary, rest, summary_of, uses_device}
-use Rattle.device_order.specs.Summaries.{AreHomed, DeviceSummary, MeetsStand, blank, overwritten, unanswered}
-use Rattle.device_order.specs.Usages.{counts_serially, is_restart, is_up, stage_is_committed}
-use Rattle.device_order.specs.Walks.{EntryFits, WalkHolds, WalkState, after_entry, walk_end}
-use Rattle.device_order.specs.declared.records.Event.{Event}
-use Rattle.device_order.specs.declared.records.Event.TheVariants.{Failure, Restart}
-use Rattle.device_order.specs.declared.records.OrderEntry.{OrderEntry}
-use Rattle.device_order.specs.declared.records.OrderEntry.TheVariants.{Occurred, Used}
-use Rattle.device_order.specs.declared.records.Usage.{Usage}
-use Rattle.home_types.specs.Commands.{Execution, routine_execution}
-use Rattle.home_types.specs.HomeStates.{stand_at, with_up}
-use Rattle.home_types.specs.declared.commands.Answer.{Answer}
-use Rattle.home_types.specs.declared.items.Item.{Item}
-use Rattle.home_types.specs.declared.items.Item.TheVariants.{Back, Failed, Ran}
-use Rattle.home_types.specs.declared.kinds.Kind.{Kind}
 use Rattle.home_types.specs.declared.numbers.DeviceNo.{DeviceNo}
 use Rattle.home_types.specs.declared.numbers.RunNo.{RunNo}
-use Rattle.home_types.specs.declared.worlds.Stand.{Stand}
-use Rattle.std.proofs.Common.{Bool, List, None, Option, Some, [], ap, append-nil, append_assoc, arith, false, fold, inl, inr, length, length-set, not, refl, subst, sym, true, ℕ, ◌++◌, ◌<◌, ◌∙◌, ◌∷◌, ◌≡◌, ◌≢◌}
-use Rattle.std.proofs.lemmas.Bool.{or_from}
-use Rattle.std.proofs.lemmas.Grind.{common_steps}
-use Rattle.std.specs.Prelude.{if◌then◌else◌, is_some, ◌==◌, ◌||◌}
 
 -- the walk over an entry that may be there
 abbrev pub met : WalkState → Option OrderEntry → WalkState

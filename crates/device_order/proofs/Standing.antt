@@ -5,18 +5,7 @@ use Rattle.device_order.proofs.Effects.{out_free}
 use Rattle.device_order.proofs.Parts.{Cut, cut, put}
 use Rattle.device_order.proofs.Suffix.{Idle}
 use Rattle.device_order.proofs.Undos.{undone}
-use Rattle.device_order.specs.Claims.{StandsAt, value_in_effect}
-use Rattle.device_order.specs.Invariant.{DeviceFits, DeviceInvariant}
-use Rattle.device_order.specs.Records.{DeviceRecord, walk_start}
-use Rattle.device_order.specs.Usages.{holds_command}
-use Rattle.device_order.specs.Walks.{Home, Undo, WalkHolds, WalkState, after_usage, walk_end}
-use Rattle.device_order.specs.declared.records.OrderEntry.TheVariants.{Used}
-use Rattle.device_order.specs.declared.records.OrderEntry.{OrderEntry}
-use Rattle.device_order.specs.declared.records.Probe.TheVariants.{Asks, Restores, Unprobed}
-use Rattle.device_order.specs.declared.records.Probe.{Probe}
-use Rattle.device_order.specs.declared.records.Usage.{Usage}
-use Rattle.std.proofs.Common.{Bool, List, None, arith, refl, subst, sym, true, ℕ, ◌++◌, ◌∙◌, ◌∷◌, ◌≡◌}
-use Rattle.std.proofs.lemmas.Grind.{common_steps}
+use Rattle.device_order.proofs.Prelude.{Asks, Bool, DeviceFits, DeviceInvariant, DeviceRecord, Home, List, None, OrderEntry, Probe, Restores, StandsAt, Undo, Unprobed, Usage, Used, WalkHolds, WalkState, after_usage, arith, common_steps, holds_command, refl, subst, sym, true, value_in_effect, walk_end, walk_start, ℕ, ◌++◌, ◌∙◌, ◌∷◌, ◌≡◌}
 
 home_stands : (e : WalkState) (up : Bool) (held : ℕ) (p : Probe) → e.out ≡ Home → p ≡ Unprobed → up ≡ true → DeviceFits e up held p → held ≡ e.stand
 home_stands e up held p o n u x = grind (arith, common_steps)

@@ -1,15 +1,6 @@
 -- What stands behind an open run, and behind an event that is put in.
-use Rattle.device_order.specs.declared.records.Event.{Event}
+use Rattle.device_order.proofs.Prelude.{Bool, Event, List, Occurred, OrderEntry, Usage, UsageFits, Used, WalkHolds, WalkState, [], after_usage, ap, arith, awaits_first, common_steps, false, has_used_device, if◌then◌else◌, is_calm, is_command_out, is_restart, not, refl, stage_is_open, subst, sym, true, walk_end, with_event, ◌&&◌, ◌||◌, ◌∙◌, ◌∷◌, ◌≡◌}
 use Rattle.device_order.proofs.Quiet.{quiet, untouched, quiet_fits, quiet_next}
-use Rattle.device_order.specs.Changes.{is_calm}
-use Rattle.device_order.specs.Usages.{awaits_first, has_used_device, is_restart, stage_is_open}
-use Rattle.device_order.specs.Walks.{UsageFits, WalkHolds, WalkState, after_usage, is_command_out, walk_end, with_event}
-use Rattle.device_order.specs.declared.records.OrderEntry.TheVariants.{Occurred, Used}
-use Rattle.device_order.specs.declared.records.OrderEntry.{OrderEntry}
-use Rattle.device_order.specs.declared.records.Usage.{Usage}
-use Rattle.std.proofs.Common.{◌≡◌, Bool, true, false, List, [], ◌∷◌, arith, refl, ap, ◌∙◌, sym, subst}
-use Rattle.std.proofs.lemmas.Grind.{common_steps}
-use Rattle.std.specs.Prelude.{◌&&◌, ◌||◌, not, if◌then◌else◌}
 
 abbrev pub blocks : WalkState → Bool
 blocks s = s.opened || is_command_out s.out

@@ -1,23 +1,10 @@
 -- Routines and events on different devices do not see one another.
-use Rattle.command_rules.specs.Rosters.{Run, commands_of, is_on, run_no, touches}
-use Rattle.command_rules.specs.Serial.{SerialRun, Served, serial_execution, serve}
+use Rattle.device_order.proofs.Prelude.{Back, Bool, Command, Effect, Execution, Failed, Item, Kind, List, Ran, Run, SerialRun, Served, Stand, [], ap, append_assoc, arith, command_effect, commands_of, common_steps, eq-eqb, execute, false, fold, fold-append, is_on, kind_at, not, nowhere, or_left, refl, routine_execution, run_no, serial_execution, serve, set, stand_at, subst, subst₂, sym, touches, true, with_effect, with_up, ℕ, ◌++◌, ◌==◌, ◌||◌, ◌∙◌, ◌∷◌, ◌≡◌, ◌≢◌}
 use Rattle.device_order.specs.Exchanges.{SameOutcome, ShareNoDevice, servings_of}
-use Rattle.home_types.specs.Commands.{Effect, Execution, command_effect, execute, routine_execution, with_effect}
-use Rattle.home_types.specs.HomeStates.{nowhere, stand_at, with_up}
-use Rattle.home_types.specs.Kinds.{kind_at}
-use Rattle.home_types.specs.declared.commands.Command.{Command}
-use Rattle.home_types.specs.declared.items.Item.TheVariants.{Back, Failed, Ran}
-use Rattle.home_types.specs.declared.items.Item.{Item}
-use Rattle.home_types.specs.declared.kinds.Kind.{Kind}
 use Rattle.home_types.specs.declared.numbers.RunNo.{RunNo}
-use Rattle.home_types.specs.declared.worlds.Stand.{Stand}
-use Rattle.std.proofs.Common.{Bool, List, [], ap, append_assoc, arith, false, fold, refl, set, subst, subst₂, sym, true, ℕ, ◌++◌, ◌≡◌, ◌≢◌, ◌∙◌, ◌∷◌}
-use Rattle.std.proofs.lemmas.Bool.{eq-eqb, or_left}
-use Rattle.std.proofs.lemmas.Grind.{common_steps, fold-append}
 use Rattle.std.proofs.lemmas.List.{get_or-set_other, set_comm}
 use Rattle.std.proofs.lemmas.List.Elements.{filter-append}
 use Rattle.std.specs.List.{list_any}
-use Rattle.std.specs.Prelude.{not, ◌==◌, ◌||◌}
 
 -- no command is on the device, and none is on a device of the others
 unfoldable Misses : ℕ → List Command → Type 0

@@ -5,19 +5,7 @@ use Rattle.device_order.proofs.Commands.{home_front}
 use Rattle.device_order.proofs.Effects.{Tidy, out_free, unmoved, undone_stays, free_behind, another_out, Outs, acts_stays, same_stand, undo_last, none_lost}
 use Rattle.device_order.proofs.Lists.{has_back, has_head, has_tail, end_join}
 use Rattle.device_order.proofs.Parts.{Cut, cut, mend, Lower, lower}
-use Rattle.device_order.specs.Invariant.{DeviceFits, DeviceInvariant}
-use Rattle.device_order.specs.Records.{DeviceRecord, NothingIsOut, walk_after, walk_start}
-use Rattle.device_order.specs.Usages.{holds_grip, is_in_effect, stage_is_doomed}
-use Rattle.device_order.specs.Walks.{Home, Undo, UsageFits, WalkHolds, WalkState, after_usage, has, is_command_out, is_home, walk_end, with_event}
-use Rattle.device_order.specs.declared.records.Event.TheVariants.{Failure}
-use Rattle.device_order.specs.declared.records.HeldGrip.TheVariants.{Free, Undoes}
-use Rattle.device_order.specs.declared.records.OrderEntry.TheVariants.{Used}
-use Rattle.device_order.specs.declared.records.OrderEntry.{OrderEntry}
-use Rattle.device_order.specs.declared.records.Probe.TheVariants.{Unprobed}
-use Rattle.device_order.specs.declared.records.Probe.{Probe}
-use Rattle.device_order.specs.declared.records.Usage.{Usage}
-use Rattle.std.proofs.Common.{◌≡◌, ℕ, Bool, true, false, List, ◌∷◌, ◌++◌, arith, refl, ap, ◌∙◌, sym, subst}
-use Rattle.std.proofs.lemmas.Grind.{common_steps}
+use Rattle.device_order.proofs.Prelude.{Bool, DeviceFits, DeviceInvariant, DeviceRecord, Failure, Free, Home, List, NothingIsOut, OrderEntry, Probe, Undo, Undoes, Unprobed, Usage, UsageFits, Used, WalkHolds, WalkState, after_usage, ap, arith, common_steps, false, has, holds_grip, is_command_out, is_home, is_in_effect, refl, stage_is_doomed, subst, sym, true, walk_after, walk_end, walk_start, with_event, ℕ, ◌++◌, ◌∙◌, ◌∷◌, ◌≡◌}
 
 -- the undo goes out
 

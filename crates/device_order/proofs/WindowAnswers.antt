@@ -1,44 +1,13 @@
 -- The steps in which a run gets an answer keep the invariant of the window.
-use Rattle.command_rules.specs.Rosters.{device_no}
+use Rattle.device_order.proofs.Prelude.{AccessDies, Bool, ChangesInPlace, Command, DeviceInvariant, Done, DownAgain, DownFirst, DownIsAnswered, EventsAreHomed, Failed, Failure, FirstAccessDied, Free, GripFits, GuardSkipped, HeldGrip, IsAnswered, IsHomeAt, Kind, LaterAccessDied, List, None, NothingIsOut, Occurred, Option, Pending, ReadAnswered, ReadFinds, ReadIsAnswered, Reads, RunStage, RunState, SkipIsAnswered, Some, Undoes, Up, Usage, UsageFits, Used, View, WalkState, WindowInvariant, WindowModel, WriteAnswered, WriteIsAnswered, Writes, any_run, ap, arith, at_device, common_steps, counts_serially, device_no, device_record, driven, entries, entry_if, fails, false, first_read, first_view, has_pending, holds_command, holds_grip, inl, inr, is_seen_down, is_some, is_up, kind_at, length, line_with_event, refl, rest, stage_is_committed, stage_is_doomed, stage_is_open, stage_of, stand_at, subst, summary_of, sym, true, usage, uses_device, walk_end, walk_start, with_event, with_event_in, ℕ, ◌++◌, ◌<◌, ◌==◌, ◌||◌, ◌∙◌, ◌∷◌, ◌≡◌}
 use Rattle.device_order.proofs.Claims.{reads as reads_find}
 use Rattle.device_order.proofs.InPlace.{acted, entries_before, evented, events_event, next_homed, next_used, run_fits, stepped, still_device}
 use Rattle.device_order.proofs.LineEntries.{entries_event_off}
 use Rattle.device_order.proofs.LineWords.{has_entries}
 use Rattle.device_order.proofs.NewAnswers.{gave_run, gave_there, gave_usage}
 use Rattle.device_order.proofs.SerialLines.{event_here, event_there}
-use Rattle.device_order.specs.Changes.{DownAgain, DownFirst, FirstAccessDied, GuardSkipped, IsAnswered, LaterAccessDied, ReadAnswered, WriteAnswered, first_read}
-use Rattle.device_order.specs.Claims.{ReadFinds}
-use Rattle.device_order.specs.Invariant.{DeviceInvariant}
-use Rattle.device_order.specs.LineChanges.{line_with_event}
-use Rattle.device_order.specs.LineEntries.{entries, entry_if, stage_of, usage}
-use Rattle.device_order.specs.LineOrders.{EventsAreHomed}
-use Rattle.device_order.specs.LineWords.{any_run, at_device}
-use Rattle.device_order.specs.Records.{NothingIsOut, walk_start}
-use Rattle.device_order.specs.RunStates.{RunState, rest, summary_of, uses_device}
-use Rattle.device_order.specs.Summaries.{first_view}
-use Rattle.device_order.specs.Usages.{counts_serially, has_pending, holds_command, holds_grip, is_seen_down, is_up, stage_is_committed, stage_is_doomed, stage_is_open}
-use Rattle.device_order.specs.Walks.{GripFits, UsageFits, WalkState, walk_end, with_event}
-use Rattle.device_order.specs.WindowSteps.{AccessDies, ChangesInPlace, DownIsAnswered, IsHomeAt, ReadIsAnswered, SkipIsAnswered, WriteIsAnswered, with_event_in}
-use Rattle.device_order.specs.Windows.{WindowInvariant, WindowModel, device_record}
-use Rattle.device_order.specs.declared.records.Event.TheVariants.{Failure}
-use Rattle.device_order.specs.declared.records.HeldGrip.{HeldGrip}
-use Rattle.device_order.specs.declared.records.HeldGrip.TheVariants.{Free, Reads, Undoes, Writes}
-use Rattle.device_order.specs.declared.records.OrderEntry.TheVariants.{Occurred, Used}
-use Rattle.device_order.specs.declared.records.RunStage.{RunStage}
-use Rattle.device_order.specs.declared.records.RunStage.TheVariants.{Done, Pending}
-use Rattle.device_order.specs.declared.records.Usage.{Usage}
-use Rattle.home_types.specs.Commands.{driven, fails}
-use Rattle.home_types.specs.HomeStates.{stand_at}
-use Rattle.home_types.specs.Kinds.{kind_at}
 use Rattle.home_types.specs.declared.commands.Answer.TheVariants.{Down, Fine, Found, Skipped}
-use Rattle.home_types.specs.declared.commands.Command.{Command}
-use Rattle.home_types.specs.declared.commands.View.{View}
-use Rattle.home_types.specs.declared.commands.View.TheVariants.{Down as ViewDown, Up}
-use Rattle.home_types.specs.declared.items.Item.TheVariants.{Failed}
-use Rattle.home_types.specs.declared.kinds.Kind.{Kind}
-use Rattle.std.proofs.Common.{Bool, List, None, Option, Some, ap, arith, false, inl, inr, length, refl, subst, sym, true, ℕ, ◌++◌, ◌<◌, ◌∙◌, ◌∷◌, ◌≡◌}
-use Rattle.std.proofs.lemmas.Grind.{common_steps}
-use Rattle.std.specs.Prelude.{is_some, ◌==◌, ◌||◌}
+use Rattle.home_types.specs.declared.commands.View.TheVariants.{Down as ViewDown}
 
 up_first : (o : Option View) → is_seen_down o ≡ false → first_view o Up ≡ Some Up
 up_first o h = grind (arith, common_steps)

@@ -1,32 +1,9 @@
 -- What the invariant of a window says of its order.
-use Rattle.command_rules.specs.Rosters.{run_no}
-use Rattle.command_rules.specs.Serial.{serial_execution}
+use Rattle.device_order.proofs.Prelude.{Back, Bool, DeviceInvariant, DeviceSummary, Failed, Failure, HasLiveWriteAt, Home, IsAllAnswered, IsCovered, IsPendingAt, Item, Kind, LineIsSerial, LineIsWhole, List, Occurred, Option, OrderIsSerial, OutFits, Ran, Restart, RunInvariant, RunState, RunStates, Stand, StandsBefore, Unprobed, Usage, UsageFits, Used, WalkHolds, WalkState, WindowInvariant, WindowModel, [], after_usage, all_committed, and_parts, ap, arith, blank, both_ways, common_steps, device_record, device_summary, entries, entry_if, false, has, has_committed_write, has_pending, has_used_device, if◌then◌else◌, is_some, length, not, refl, rest, run_no, serial_execution, serial_order, stage_is_committed, stage_of, stand_at, subst, sym, true, unanswered, usage, uses_device, walk_end, walk_start, walked_value, with_order_entry, ℕ, ◌&&◌, ◌++◌, ◌<◌, ◌==◌, ◌||◌, ◌∙◌, ◌∷◌, ◌≡◌}
 use Rattle.device_order.proofs.Claims.{covered, pending}
 use Rattle.device_order.proofs.LineEntries.{used_at, uses_rest}
 use Rattle.device_order.proofs.Paired.{unused_there}
 use Rattle.device_order.proofs.SerialLines.{line_serial}
-use Rattle.device_order.specs.Invariant.{DeviceInvariant, OutFits}
-use Rattle.device_order.specs.LineEntries.{entries, entry_if, stage_of, usage, with_order_entry}
-use Rattle.device_order.specs.LineOrders.{LineIsSerial, all_committed, serial_order}
-use Rattle.device_order.specs.Records.{walk_start}
-use Rattle.device_order.specs.RunStates.{IsAllAnswered, RunState, RunStates, device_summary, rest, uses_device}
-use Rattle.device_order.specs.Summaries.{DeviceSummary, blank, unanswered}
-use Rattle.device_order.specs.Usages.{has_committed_write, has_pending, has_used_device, stage_is_committed}
-use Rattle.device_order.specs.Walks.{Home, UsageFits, WalkHolds, WalkState, after_usage, has, walk_end}
-use Rattle.device_order.specs.Windows.{HasLiveWriteAt, IsCovered, IsPendingAt, LineIsWhole, OrderIsSerial, RunInvariant, StandsBefore, WindowInvariant, WindowModel, device_record, walked_value}
-use Rattle.device_order.specs.declared.records.Event.TheVariants.{Failure, Restart}
-use Rattle.device_order.specs.declared.records.OrderEntry.TheVariants.{Occurred, Used}
-use Rattle.device_order.specs.declared.records.Probe.TheVariants.{Unprobed}
-use Rattle.device_order.specs.declared.records.Usage.{Usage}
-use Rattle.home_types.specs.HomeStates.{stand_at}
-use Rattle.home_types.specs.declared.items.Item.{Item}
-use Rattle.home_types.specs.declared.items.Item.TheVariants.{Back, Failed, Ran}
-use Rattle.home_types.specs.declared.kinds.Kind.{Kind}
-use Rattle.home_types.specs.declared.worlds.Stand.{Stand}
-use Rattle.std.proofs.Common.{Bool, List, Option, [], ap, arith, false, length, not, refl, subst, sym, true, ℕ, ◌++◌, ◌<◌, ◌∙◌, ◌∷◌, ◌≡◌}
-use Rattle.std.proofs.lemmas.Bool.{and_parts, both_ways}
-use Rattle.std.proofs.lemmas.Grind.{common_steps}
-use Rattle.std.specs.Prelude.{if◌then◌else◌, is_some, ◌&&◌, ◌==◌, ◌||◌}
 
 whole : (kinds : List Kind) (n : ℕ) (l : RunState) → RunInvariant kinds n l → l.committed ≡ true → IsAllAnswered kinds n l
 whole kinds n l i c = record { all = (i.whole c).1; fit = i.fit (i.whole c).0; none_fails = i.none_fails (i.whole c).0; homed = i.homed }

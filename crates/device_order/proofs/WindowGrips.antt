@@ -1,41 +1,12 @@
 -- The steps in which a grip or a probe goes out or comes home keep the invariant of the window.
-use Rattle.command_rules.specs.Rosters.{commands_of, device_no}
+use Rattle.device_order.proofs.Prelude.{Back, Bool, ChangesInPlace, Command, CommandGoesOut, CommandOut, DeviceChange, DeviceInvariant, DeviceRecord, DeviceRestarted, DeviceRestarts, EventsAreHomed, Failed, Failure, Free, HeldGrip, IsStill, Item, KeepsAnswers, KeepsElsewhere, KeepsRuns, Kind, List, MayUndo, None, Occurred, Option, OrderEntry, Probe, ProbeDied, ProbeDies, ProbeFindsDown, ProbeFindsUp, ProbeFoundDown, ProbeFoundUp, ProbeGoesOut, ProbeOut, Reads, Restart, RunInvariant, RunState, RunStates, Some, UndoAnswered, UndoDied, UndoDies, UndoDropped, UndoGoesOut, UndoIsAnswered, UndoIsDropped, UndoOut, Undoes, Unprobed, Usage, Used, WindowInvariant, WindowModel, Writes, ap, arith, command_grip, commands_of, common_steps, device_no, device_record, device_summary, entries, false, has_pending, holds_command, if◌then◌else◌, is_read, is_some, is_write_settled, last_in_effect, length, line_with_event, not, option_map, probe_for, reads, refl, rest, spans_up, stage_is_committed, stage_is_doomed, stage_of, stand_at, standing_value_on, subst, sym, true, usage, uses_device, walk_after, with_event, ℕ, ◌&&◌, ◌++◌, ◌<◌, ◌∙◌, ◌∷◌, ◌≡◌, ◌≢◌}
 use Rattle.device_order.proofs.Changes.{keeps}
 use Rattle.device_order.proofs.InPlace.{acted, entries_before, evented, events_event, next_used, same_run, same_usage, stepped, two_places}
 use Rattle.device_order.proofs.LineEntries.{entries_event, entries_event_off, entries_join}
 use Rattle.device_order.proofs.LineWords.{WritesLast, effective_entries, has_entries, stand_line, writer_cut}
 use Rattle.device_order.proofs.SerialLines.{event_here, event_there}
 use Rattle.device_order.proofs.WindowAnswers.{home_at, homed_failure, pends_counts}
-use Rattle.device_order.specs.Changes.{CommandOut, DeviceChange, DeviceRestarted, ProbeDied, ProbeFoundDown, ProbeFoundUp, ProbeOut, UndoAnswered, UndoDied, UndoDropped, UndoOut, probe_for}
-use Rattle.device_order.specs.Invariant.{DeviceInvariant}
-use Rattle.device_order.specs.LineChanges.{line_with_event}
-use Rattle.device_order.specs.LineEntries.{command_grip, entries, stage_of, usage}
-use Rattle.device_order.specs.LineOrders.{EventsAreHomed}
-use Rattle.device_order.specs.LineWords.{last_in_effect, standing_value_on}
-use Rattle.device_order.specs.Records.{DeviceRecord, walk_after}
-use Rattle.device_order.specs.RunStates.{RunState, RunStates, device_summary, rest, uses_device}
-use Rattle.device_order.specs.Usages.{has_pending, holds_command, is_read, spans_up, stage_is_committed, stage_is_doomed}
-use Rattle.device_order.specs.Walks.{is_write_settled, with_event}
-use Rattle.device_order.specs.WindowSteps.{ChangesInPlace, CommandGoesOut, DeviceRestarts, IsStill, KeepsAnswers, KeepsElsewhere, KeepsRuns, MayUndo, ProbeDies, ProbeFindsDown, ProbeFindsUp, ProbeGoesOut, UndoDies, UndoGoesOut, UndoIsAnswered, UndoIsDropped}
-use Rattle.device_order.specs.Windows.{RunInvariant, WindowInvariant, WindowModel, device_record}
-use Rattle.device_order.specs.declared.records.Event.TheVariants.{Failure, Restart}
-use Rattle.device_order.specs.declared.records.HeldGrip.{HeldGrip}
-use Rattle.device_order.specs.declared.records.HeldGrip.TheVariants.{Free, Reads, Undoes, Writes}
-use Rattle.device_order.specs.declared.records.OrderEntry.{OrderEntry}
-use Rattle.device_order.specs.declared.records.OrderEntry.TheVariants.{Occurred, Used}
-use Rattle.device_order.specs.declared.records.Probe.{Probe}
-use Rattle.device_order.specs.declared.records.Probe.TheVariants.{Unprobed}
-use Rattle.device_order.specs.declared.records.Usage.{Usage}
-use Rattle.home_types.specs.Commands.{reads}
-use Rattle.home_types.specs.HomeStates.{stand_at}
-use Rattle.home_types.specs.declared.commands.Command.{Command}
-use Rattle.home_types.specs.declared.items.Item.{Item}
-use Rattle.home_types.specs.declared.items.Item.TheVariants.{Back, Failed}
-use Rattle.home_types.specs.declared.kinds.Kind.{Kind}
-use Rattle.std.proofs.Common.{Bool, List, None, Option, Some, ap, arith, false, length, not, refl, subst, sym, true, ℕ, ◌++◌, ◌<◌, ◌∙◌, ◌∷◌, ◌≡◌, ◌≢◌}
-use Rattle.std.proofs.lemmas.Grind.{common_steps}
 use Rattle.std.specs.Option.{option_map_or}
-use Rattle.std.specs.Prelude.{if◌then◌else◌, is_some, option_map, ◌&&◌}
 
 -- a run changes at one device in what it undid there and what it holds the grip for, and the line may get an event of the device
 record AtOneDevice (kinds : List Kind) (s s' : WindowModel) (r d : ℕ) (L : List Item) : Type 0 where

@@ -1,5 +1,5 @@
 -- The steps in which a run is placed, doomed, committed or aborted keep the invariant of the window.
-use Rattle.command_rules.specs.Rosters.{device_no, run_no}
+use Rattle.device_order.proofs.Prelude.{AnswersFit, AreHomed, Back, Bool, Command, Committed, DeviceInvariant, Done, EventsAreHomed, Failed, Failure, Free, HasDoneNothing, HeldGrip, Item, KeepsAnswers, Kind, List, NoCommandFails, None, Occurred, Option, OrderEntry, ProbeDiedUnderRun, ProbeDiesUnderRun, Ran, RunAborted, RunCommits, RunCommitted, RunDoomed, RunInvariant, RunIsDoomed, RunIsPlaced, RunLeaves, RunPlaced, RunState, Unprobed, Usage, Used, View, WindowInvariant, WindowModel, WindowStarts, [], and_parts, answered_commands, ap, arith, blank, both_ways, common_steps, device_no, device_record, doomed_stage, entries, false, is_free, is_up, last_in_effect, length, line_with_event, new_usage, not, paired, refl, remaining, rest, run_no, spans_up, stage_is_doomed, stage_is_open, stage_of, stand_at, subst, summary, sym, true, usage, uses_device, ℕ, ◌&&◌, ◌++◌, ◌<◌, ◌∙◌, ◌∷◌, ◌≡◌, ◌≤◌}
 use Rattle.device_order.proofs.Changes.{keeps}
 use Rattle.device_order.proofs.Claims.{begins}
 use Rattle.device_order.proofs.InPlace.{acted, entries_before, evented, events_insert, off_device, same_run, same_usage, stepped, window_keeps}
@@ -9,35 +9,6 @@ use Rattle.device_order.proofs.NewAnswers.{length_done, rest_none}
 use Rattle.device_order.proofs.SerialLines.{event_here, event_there}
 use Rattle.device_order.proofs.WindowAnswers.{homed_failure}
 use Rattle.device_order.proofs.WindowGrips.{same_commands, same_runs}
-use Rattle.device_order.specs.Changes.{ProbeDiedUnderRun, RunAborted, RunCommitted, RunDoomed, RunPlaced, new_usage}
-use Rattle.device_order.specs.Invariant.{DeviceInvariant}
-use Rattle.device_order.specs.LineChanges.{line_with_event}
-use Rattle.device_order.specs.LineEntries.{entries, stage_of, usage}
-use Rattle.device_order.specs.LineOrders.{EventsAreHomed}
-use Rattle.device_order.specs.LineWords.{last_in_effect}
-use Rattle.device_order.specs.RunStates.{RunState, answered_commands, paired, remaining, rest, uses_device}
-use Rattle.device_order.specs.Summaries.{AnswersFit, AreHomed, NoCommandFails, blank, summary}
-use Rattle.device_order.specs.Usages.{doomed_stage, is_free, is_up, spans_up, stage_is_doomed, stage_is_open}
-use Rattle.device_order.specs.WindowSteps.{HasDoneNothing, KeepsAnswers, ProbeDiesUnderRun, RunCommits, RunIsDoomed, RunIsPlaced, RunLeaves, WindowStarts}
-use Rattle.device_order.specs.Windows.{RunInvariant, WindowInvariant, WindowModel, device_record}
-use Rattle.device_order.specs.declared.records.Event.TheVariants.{Failure}
-use Rattle.device_order.specs.declared.records.HeldGrip.{HeldGrip}
-use Rattle.device_order.specs.declared.records.HeldGrip.TheVariants.{Free}
-use Rattle.device_order.specs.declared.records.OrderEntry.{OrderEntry}
-use Rattle.device_order.specs.declared.records.OrderEntry.TheVariants.{Occurred, Used}
-use Rattle.device_order.specs.declared.records.Probe.TheVariants.{Unprobed}
-use Rattle.device_order.specs.declared.records.RunStage.TheVariants.{Committed, Done}
-use Rattle.device_order.specs.declared.records.Usage.{Usage}
-use Rattle.home_types.specs.HomeStates.{stand_at}
-use Rattle.home_types.specs.declared.commands.Command.{Command}
-use Rattle.home_types.specs.declared.commands.View.{View}
-use Rattle.home_types.specs.declared.items.Item.{Item}
-use Rattle.home_types.specs.declared.items.Item.TheVariants.{Back, Failed, Ran}
-use Rattle.home_types.specs.declared.kinds.Kind.{Kind}
-use Rattle.std.proofs.Common.{Bool, List, None, Option, [], ap, arith, false, length, not, refl, subst, sym, true, ℕ, ◌++◌, ◌<◌, ◌∙◌, ◌∷◌, ◌≡◌, ◌≤◌}
-use Rattle.std.proofs.lemmas.Bool.{and_parts, both_ways}
-use Rattle.std.proofs.lemmas.Grind.{common_steps}
-use Rattle.std.specs.Prelude.{◌&&◌}
 
 -- a run that commits: the same at each of its devices
 commit_device : (kinds : List Kind) (s s' : WindowModel) (r d : ℕ) → RunCommits s s' r → DeviceInvariant (device_record kinds s d) → DeviceInvariant (device_record kinds s' d)

@@ -1,29 +1,13 @@
 -- A legal window with its order exchanged.
-use Rattle.command_rules.proofs.Cited.{is_of}
-use Rattle.command_rules.specs.Apart.{meet, share_device}
-use Rattle.command_rules.specs.ClosedSets.{Exchanged, Stays, Swaps, are_apart, exchanged}
-use Rattle.command_rules.specs.Items.{is_ran}
-use Rattle.command_rules.specs.Rosters.{Run, follows}
+use Rattle.exchange_laws.proofs.Prelude.{Back, Bool, Exchanged, Failed, IsLegalUpToExchanges, IsSeriallyLegalUpToExchanges, Item, List, Ran, Run, Setting, Stand, Stays, Swaps, [], are_apart, arith, behind, common_steps, cond, exchanged, false, follows, is_committed, is_event_on, is_of, is_ran, is_weak, line_of, list_any, meet, reading, refl, share_device, subst, sym, true, with_order, ℕ, ◌&&◌, ◌++◌, ◌==◌, ◌||◌, ◌∙◌, ◌∷◌, ◌≡◌}
 use Rattle.exchange_laws.proofs.Reached.{turned_back}
 use Rattle.exchange_laws.proofs.ServedOrders.{Gives, swap_gives}
 use Rattle.exchange_laws.proofs.Swaps.{not_both, one_exchange, swap_any, swap_count, swap_filter}
-use Rattle.exchange_laws.specs.ExchangedOrders.{IsLegalUpToExchanges, IsSeriallyLegalUpToExchanges, with_order}
-use Rattle.history_book.specs.Histories.{line_of, reading}
-use Rattle.history_book.specs.Lines.{behind, is_event_on}
-use Rattle.history_book.specs.Readings.{is_committed}
-use Rattle.history_book.specs.Settings.{Setting, is_weak}
 use Rattle.history_book.specs.declared.entries.Entry.{Entry}
 use Rattle.history_book.specs.declared.records.WindowRecord.{WindowRecord}
-use Rattle.home_types.specs.declared.items.Item.TheVariants.{Back, Failed, Ran}
-use Rattle.home_types.specs.declared.items.Item.{Item}
-use Rattle.home_types.specs.declared.worlds.Stand.{Stand}
 use Rattle.legal_days.specs.Agreement.{AgreesWithSerial}
 use Rattle.legal_days.specs.LegalWindows.{IsLegalWindow, IsSeriallyLegal, IsWeaklyLegal, history_of}
 use Rattle.legal_days.specs.Orders.{IsOrderFor}
-use Rattle.std.proofs.Common.{arith, cond, refl, subst, sym, ◌∙◌}
-use Rattle.std.proofs.lemmas.Grind.{common_steps}
-use Rattle.std.specs.List.{list_any}
-use Rattle.std.specs.Prelude.{Bool, List, [], false, true, ℕ, ◌&&◌, ◌++◌, ◌==◌, ◌||◌, ◌∷◌, ◌≡◌}
 
 -- Who follows whom
 

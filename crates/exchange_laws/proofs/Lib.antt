@@ -1,3 +1,4 @@
+mod Prelude
 mod Swaps
 mod Reached
 mod ServedOrders

@@ -1,19 +1,7 @@
 -- Which orders are reached by exchanges: those that hold the same items, any two that meet in the same order.
-use Rattle.command_rules.proofs.Cited.{both_touch, found}
-use Rattle.command_rules.specs.Apart.{meet}
-use Rattle.command_rules.specs.ClosedSets.{Exchanged, Stays, Swaps}
-use Rattle.command_rules.specs.Rosters.{Run, commands_of, device_no, follows, run_no, shares}
+use Rattle.exchange_laws.proofs.Prelude.{Back, Bool, Exchanged, Failed, IsRearranged, Item, List, Ran, Run, Stays, Swaps, [], ap, ap₂, arith, both_touch, commands_of, common_steps, cond, count_by, count_cons, device_no, eq-eqb, false, filter, filter-append, follows, found, inl, inr, list_any, meet, refl, run_no, shares, subst, sym, true, ℕ, ◌&&◌, ◌++◌, ◌+◌, ◌<◌, ◌==◌, ◌||◌, ◌∙◌, ◌∷◌, ◌≡◌, ◌⊎◌}
 use Rattle.exchange_laws.proofs.Swaps.{swap_count, swap_filter}
-use Rattle.exchange_laws.specs.ExchangedOrders.{IsRearranged}
-use Rattle.home_types.specs.declared.items.Item.TheVariants.{Back, Failed, Ran}
-use Rattle.home_types.specs.declared.items.Item.{Item}
-use Rattle.legal_days.proofs.Cited.{count_cons}
 use Rattle.serial_line.specs.Marks.{is_item}
-use Rattle.std.proofs.Common.{ap, ap₂, arith, cond, eq-eqb, inl, inr, refl, subst, sym, ◌∙◌}
-use Rattle.std.proofs.lemmas.Grind.{common_steps}
-use Rattle.std.proofs.lemmas.List.Elements.{filter-append}
-use Rattle.std.specs.List.{list_any}
-use Rattle.std.specs.Prelude.{Bool, List, [], ◌&&◌, count_by, false, filter, true, ℕ, ◌++◌, ◌+◌, ◌<◌, ◌==◌, ◌||◌, ◌∷◌, ◌≡◌, ◌⊎◌}
 
 -- Items that meet
 

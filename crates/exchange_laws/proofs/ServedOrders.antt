@@ -1,21 +1,11 @@
 -- The serial execution of an order in which two neighbours that are apart have changed places: where it gave what the history says, it still does.
-use Rattle.command_rules.specs.Apart.{meet}
-use Rattle.command_rules.specs.Rosters.{Run, commands_of}
+use Rattle.exchange_laws.proofs.Prelude.{Back, Bool, Failed, Item, List, Ran, Reading, Run, Setting, Stand, [], answers_in, ap, commands_of, cond, eq-eqb, executed, false, fold, map, meet, refl, share_none, subst, sym, true, ℕ, ⊤, ◌++◌, ◌==◌, ◌∙◌, ◌∷◌, ◌≡◌}
 use Rattle.command_rules.specs.Serial.{SerialRun, Served, serve}
 use Rattle.device_order.proofs.Cited.{exchanged as outcome_stays}
 use Rattle.device_order.specs.Exchanges.{SameOutcome, servings_of}
-use Rattle.history_book.specs.Histories.{answers_in, executed}
-use Rattle.history_book.specs.Readings.{Reading}
-use Rattle.history_book.specs.Settings.{Setting}
 use Rattle.home_types.specs.Commands.{routine_execution}
-use Rattle.home_types.specs.declared.items.Item.TheVariants.{Back, Failed, Ran}
-use Rattle.home_types.specs.declared.items.Item.{Item}
 use Rattle.home_types.specs.declared.kinds.Kind.{Kind}
 use Rattle.home_types.specs.declared.numbers.RunNo.{RunNo}
-use Rattle.home_types.specs.declared.worlds.Stand.{Stand}
-use Rattle.lineage_laws.proofs.Cited.{share_none}
-use Rattle.std.proofs.Common.{ap, cond, eq-eqb, refl, subst, sym, ◌∙◌}
-use Rattle.std.specs.Prelude.{Bool, List, [], false, fold, map, true, ℕ, ⊤, ◌++◌, ◌==◌, ◌∷◌, ◌≡◌}
 
 -- Which runs are served, and what each answers
 

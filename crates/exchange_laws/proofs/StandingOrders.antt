@@ -1,32 +1,15 @@
 -- The four clauses of the serial order, with the line exchanged.
-use Rattle.command_rules.proofs.Cited.{is_of}
-use Rattle.command_rules.specs.Apart.{meet}
-use Rattle.command_rules.specs.ClosedSets.{Exchanged, Stays, Swaps, are_apart, exchanged}
-use Rattle.command_rules.specs.Items.{is_ran, of_run}
-use Rattle.command_rules.specs.Rosters.{commands_of, run_no, touches}
+use Rattle.exchange_laws.proofs.Prelude.{Back, Bool, Event, Exchanged, Failed, First, IsTrue, Item, Last, List, LogMark, None, Option, Ran, Reading, Setting, Some, Stand, Stays, Swaps, [], ap, are_apart, arith, asks_on, commands_of, common_steps, cond, cons_option, device_numbers, did, entries_of, exchanged, false, filter, filter-append, filter_map, has_written, if◌then◌else◌, inl, inr, is_committed, is_doomed, is_event_on, is_live, is_of, is_ran, is_some, list_any, map, meet, next_of, not, of_run, pends, point_with_line, refl, run_no, sees_up, subst, sym, touches, true, unwrap_or, ℕ, ◌&&◌, ◌++◌, ◌==◌, ◌||◌, ◌∙◌, ◌∷◌, ◌≡◌, ◌⊎◌}
 use Rattle.exchange_laws.proofs.ServedOrders.{Gives, swap_gives}
 use Rattle.exchange_laws.proofs.Swaps.{not_both, one_exchange, one_is_off, swap_any, swap_filter, swap_last, swap_map}
-use Rattle.exchange_laws.specs.ExchangedOrders.{point_with_line}
 use Rattle.history_book.proofs.Cited.{Shaped, asks_next, did_touches, shapes}
-use Rattle.history_book.specs.Histories.{entries_of}
-use Rattle.history_book.specs.Lines.{is_event_on}
-use Rattle.history_book.specs.Readings.{Event, First, Last, LogMark, Reading, asks_on, did, has_written, is_committed, is_doomed, is_live, next_of, pends, sees_up}
-use Rattle.history_book.specs.Settings.{Setting, device_numbers}
 use Rattle.history_book.specs.WellFormed.{IsWellFormed}
 use Rattle.home_types.specs.HomeStates.{stand_at}
-use Rattle.home_types.specs.declared.items.Item.TheVariants.{Back, Failed, Ran}
-use Rattle.home_types.specs.declared.items.Item.{Item}
-use Rattle.home_types.specs.declared.worlds.Stand.{Stand}
 use Rattle.lock_leasing.proofs.Cited.{command_out, next_is_left, pends_touches}
 use Rattle.lock_leasing.specs.Configurations.{Configuration, Grips, grips_command, point, point_of, read_of}
 use Rattle.lock_leasing.specs.Order.{InHistoryOrder, OrderStands, SettledAgree, committed_home, covers, firsts_of_line, has_live_write, has_read_first, is_covered, is_late, is_settled, is_touched, live_writes_are_covered, marks_of_line, open_runs_are_last, opens}
 use Rattle.lock_leasing.specs.Places.{MayBeOut, in_order}
 use Rattle.lock_leasing.specs.Words.{committed_write, is_undone, last_some}
-use Rattle.std.proofs.Common.{ap, arith, cond, inl, inr, refl, subst, sym, ◌∙◌}
-use Rattle.std.proofs.lemmas.Grind.{common_steps}
-use Rattle.std.proofs.lemmas.List.Elements.{filter-append}
-use Rattle.std.specs.List.{cons_option, list_any}
-use Rattle.std.specs.Prelude.{Bool, IsTrue, List, None, Option, Some, [], false, filter, filter_map, if◌then◌else◌, is_some, map, not, true, unwrap_or, ℕ, ◌&&◌, ◌++◌, ◌==◌, ◌||◌, ◌∷◌, ◌≡◌, ◌⊎◌}
 
 -- A run does nothing on a device that it does not use
 

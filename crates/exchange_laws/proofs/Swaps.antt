@@ -1,16 +1,6 @@
 -- Two neighbours of a list change places: what is told of the list stays, where it is not told of both.
-use Rattle.command_rules.proofs.Cited.{is_of, of_one_device}
-use Rattle.command_rules.specs.Apart.{meet}
-use Rattle.command_rules.specs.ClosedSets.{Exchanged, Stays, Swaps, are_apart, exchanged}
-use Rattle.command_rules.specs.Rosters.{Run}
-use Rattle.home_types.specs.declared.items.Item.{Item}
-use Rattle.legal_days.proofs.Cited.{count_cons}
-use Rattle.lineage_laws.proofs.Cited.{ArePair, pair}
-use Rattle.std.proofs.Common.{ap, arith, cond, inl, inr, refl, subst, sym, ◌∙◌}
-use Rattle.std.proofs.lemmas.Grind.{common_steps}
-use Rattle.std.specs.List.{cons_option, list_any}
+use Rattle.exchange_laws.proofs.Prelude.{ArePair, Bool, Exchanged, Item, List, None, Option, Run, Some, Stays, Swaps, [], ap, are_apart, arith, common_steps, cond, cons_option, count_by, count_cons, exchanged, false, filter, filter_map, fold, inl, inr, is_of, is_some, list_any, meet, of_one_device, pair, refl, subst, sym, true, ℕ, ◌&&◌, ◌++◌, ◌+◌, ◌||◌, ◌∙◌, ◌∷◌, ◌≡◌, ◌⊎◌}
 use Rattle.std.specs.Option.{option_or}
-use Rattle.std.specs.Prelude.{Bool, List, None, Option, Some, [], count_by, false, filter, filter_map, fold, is_some, true, ℕ, ◌&&◌, ◌+◌, ◌++◌, ◌||◌, ◌∷◌, ◌≡◌, ◌⊎◌}
 
 -- some item, and how many
 pub swap_any : {A : Type 0} (p : A → Bool) (front rest : List A) (a b : A) → list_any p (front ++ b ∷ a ∷ rest) ≡ list_any p (front ++ a ∷ b ∷ rest)

@@ -1,11 +1,5 @@
 -- The first access to a device of which a test holds.
-use Rattle.home_types.specs.declared.numbers.RunNo.{RunNo}
-use Rattle.lineage_table.specs.Accesses.{accesses_before, first_before, has_access}
-use Rattle.lineage_table.specs.declared.accesses.Access.{Access}
-use Rattle.std.proofs.Common.{ap, arith, cond, refl}
-use Rattle.std.proofs.lemmas.Grind.{common_steps}
-use Rattle.std.specs.List.{list_any}
-use Rattle.std.specs.Prelude.{Bool, List, None, Option, Some, [], false, find, is_some, option_map, true, ℕ, ◌||◌, ◌∷◌, ◌≡◌}
+use Rattle.failure_serialization.proofs.Prelude.{Access, Bool, List, None, Option, RunNo, Some, [], accesses_before, ap, arith, common_steps, cond, false, find, first_before, has_access, is_some, list_any, option_map, refl, true, ℕ, ◌||◌, ◌∷◌, ◌≡◌}
 
 all_before : (r : ℕ) (xs : List Access) → has_access r xs ≡ false → accesses_before r xs ≡ xs
 all_before r [] none = refl

@@ -1,4 +1,5 @@
 mod FirstAccesses
+mod Prelude
 mod ToldByTable
 mod WorkedEvents
 mod RuledEvents

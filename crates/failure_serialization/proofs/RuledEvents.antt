@@ -1,22 +1,14 @@
 -- The place of an event and the run that a failure loses are those of the rules, in each configuration to which table, line and history belong.
 use Rattle.command_rules.specs.Items.{of_run}
-use Rattle.command_rules.specs.Rosters.{device_no, touches}
-use Rattle.failure_serialization.specs.Events.{event_place, is_lost, is_sound, is_up_view, lost_run, place_or_end, waits}
+use Rattle.failure_serialization.proofs.Prelude.{Access, Acquired, Bool, Kept, LineageState, List, Mark, None, Option, Released, RunNo, Scheduled, Some, accesses_at, ap, arith, common_steps, device_no, doom_of, drop, event_place, false, find, if◌then◌else◌, is_acquired, is_lost, is_none, is_scheduled, is_some, is_sound, is_up_view, items_inserted, items_of, length, lineage_at, lost_run, map, not, option_map, place_or_end, refl, subst, sym, take, touches, true, unwrap_or, waits, with_item, ℕ, ◌&&◌, ◌++◌, ◌<◌, ◌==◌, ◌||◌, ◌∙◌, ◌∷◌, ◌≡◌}
 use Rattle.failure_serialization.specs.Ruled.{HasNoAnswer, IsEventOf, IsLossOf}
 use Rattle.history_book.proofs.Cited.{doom_is}
-use Rattle.history_book.specs.Books.{doom_of}
 use Rattle.history_book.specs.Histories.{with_event}
 use Rattle.history_book.specs.Readings.{Reading, did, is_doomed, is_live, is_open, pends, sees_up, view_of}
 use Rattle.history_book.specs.Settings.{Setting, is_weak}
 use Rattle.history_book.specs.declared.entries.Cause.{Cause}
-use Rattle.history_book.specs.declared.entries.Kept.{Kept}
 use Rattle.home_types.specs.declared.items.Item.{Item}
 use Rattle.home_types.specs.declared.numbers.DeviceNo.{DeviceNo}
-use Rattle.home_types.specs.declared.numbers.RunNo.{RunNo}
-use Rattle.lineage_table.specs.Accesses.{is_acquired, is_scheduled}
-use Rattle.lineage_table.specs.Lineages.{LineageState, accesses_at, lineage_at}
-use Rattle.lineage_table.specs.declared.accesses.Access.{Access}
-use Rattle.lineage_table.specs.declared.accesses.Status.TheVariants.{Acquired, Released, Scheduled}
 use Rattle.lock_leasing.proofs.Cited.{Facts, TellsTest, before_first, before_none, command_pends, facts_of, first_open, found_there, put_at, run_place}
 use Rattle.lock_leasing.specs.Configurations.{Configuration, Grips, grips_command, point, point_of, read_of}
 use Rattle.lock_leasing.specs.Places.{up_to_first}
@@ -24,12 +16,7 @@ use Rattle.lock_leasing.specs.Standings.{IsStandingOf, WindowParts, window_parts
 use Rattle.lock_leasing.specs.Tables.{EachTellsOfRun, IsLineageOf, is_at_work, runs_with_access, status_by_answers, uses, view_when}
 use Rattle.lock_leasing.specs.Waits.{lost_by}
 use Rattle.lock_leasing.specs.Words.{live_runs}
-use Rattle.serial_line.proofs.Cited.{items_inserted}
-use Rattle.serial_line.specs.Marks.{Mark, items_of, with_item}
-use Rattle.std.proofs.Common.{ap, arith, refl, subst, sym, ◌∙◌}
-use Rattle.std.proofs.lemmas.Grind.{common_steps}
 use Rattle.std.proofs.lemmas.List.{length-map}
-use Rattle.std.specs.Prelude.{Bool, List, None, Option, Some, drop, false, find, if◌then◌else◌, is_none, is_some, length, map, not, option_map, take, true, unwrap_or, ℕ, ◌&&◌, ◌++◌, ◌<◌, ◌==◌, ◌||◌, ◌∷◌, ◌≡◌}
 
 -- What the accesses to a device tell of its open runs
 

@@ -1,15 +1,5 @@
 -- Where the lineage tells by itself which run waits, and which is lost.
-use Rattle.failure_serialization.specs.Events.{first_waiting, is_lost, is_sound, is_up_view, lost_run, waits}
-use Rattle.history_book.specs.Books.{doom_of}
-use Rattle.history_book.specs.declared.entries.Kept.{Kept}
-use Rattle.home_types.specs.declared.numbers.RunNo.{RunNo}
-use Rattle.lineage_table.specs.Accesses.{is_acquired, is_of, is_scheduled, status_of}
-use Rattle.lineage_table.specs.declared.accesses.Access.{Access}
-use Rattle.lineage_table.specs.declared.accesses.Status.TheVariants.{Released, Scheduled}
-use Rattle.std.proofs.Common.{ap, arith, cond, refl, sym, ◌∙◌}
-use Rattle.std.proofs.lemmas.Grind.{common_steps}
-use Rattle.std.specs.List.{list_any}
-use Rattle.std.specs.Prelude.{Bool, List, None, Some, [], false, find, is_none, not, option_map, true, unwrap_or, ℕ, ◌&&◌, ◌==◌, ◌||◌, ◌∷◌, ◌≡◌}
+use Rattle.failure_serialization.proofs.Prelude.{Access, Bool, Kept, List, None, Released, RunNo, Scheduled, Some, [], ap, arith, common_steps, cond, doom_of, false, find, first_waiting, is_acquired, is_lost, is_none, is_of, is_scheduled, is_sound, is_up_view, list_any, lost_run, not, option_map, refl, status_of, sym, true, unwrap_or, waits, ℕ, ◌&&◌, ◌==◌, ◌||◌, ◌∙◌, ◌∷◌, ◌≡◌}
 
 -- The run whose first access has just died
 

@@ -1,16 +1,6 @@
 -- An event of a device stands behind the sealed items, where no run with an access to the device is one of them.
-use Rattle.failure_serialization.specs.Events.{event_place, first_waiting, place_or_end, waits}
-use Rattle.history_book.specs.declared.entries.Kept.{Kept}
-use Rattle.home_types.specs.declared.items.Item.TheVariants.{Ran}
-use Rattle.home_types.specs.declared.numbers.RunNo.{RunNo}
-use Rattle.lineage_table.specs.declared.accesses.Access.{Access}
-use Rattle.serial_line.proofs.Cited.{place_told, unsealed_place}
+use Rattle.failure_serialization.proofs.Prelude.{Access, Bool, Kept, List, Mark, Marked, None, Option, Ran, RunNo, Some, [], ap, arith, common_steps, cond, event_place, false, find, first_waiting, length, list_any, option_map, place_of, place_or_end, place_told, refl, sym, true, unsealed_place, untouched, unwrap_or, waits, ℕ, ◌||◌, ◌∙◌, ◌∷◌, ◌≡◌, ◌≤◌}
 use Rattle.serial_line.specs.Labels.{is_sealed}
-use Rattle.serial_line.specs.Marks.{Mark, Marked, place_of, untouched}
-use Rattle.std.proofs.Common.{ap, arith, cond, refl, sym, ◌∙◌}
-use Rattle.std.proofs.lemmas.Grind.{common_steps}
-use Rattle.std.specs.List.{list_any}
-use Rattle.std.specs.Prelude.{Bool, List, None, Option, Some, [], false, find, length, option_map, true, unwrap_or, ℕ, ◌||◌, ◌∷◌, ◌≡◌, ◌≤◌}
 
 -- the first of which one test holds is none of which another does
 found_off : (p q : Access → Bool) (xs : List Access) (y : Access) → list_any q xs ≡ false → find p xs ≡ Some y → q y ≡ false

@@ -1,16 +1,9 @@
 -- Events of worked windows: where they stand in the line, and which run is lost.
-use Rattle.command_rules.specs.Rosters.{run_no}
-use Rattle.failure_serialization.specs.Events.{event_place, lost_run}
+use Rattle.failure_serialization.proofs.Prelude.{Access, Acquired, Kept, List, Mark, None, Ran, Released, Scheduled, Some, [], event_place, lost_run, refl, run_no, untouched, ℕ, ◌∷◌, ◌≡◌}
 use Rattle.history_book.specs.declared.entries.Cause.TheVariants.{MustDown}
 use Rattle.history_book.specs.declared.entries.Entry.TheVariants.{Doomed}
-use Rattle.history_book.specs.declared.entries.Kept.{Kept}
 use Rattle.home_types.specs.declared.commands.View.TheVariants.{Down, Up}
 use Rattle.home_types.specs.declared.commands.View.{View}
-use Rattle.home_types.specs.declared.items.Item.TheVariants.{Ran}
-use Rattle.lineage_table.specs.declared.accesses.Access.{Access}
-use Rattle.lineage_table.specs.declared.accesses.Status.TheVariants.{Acquired, Released, Scheduled}
-use Rattle.serial_line.specs.Marks.{Mark, untouched}
-use Rattle.std.proofs.Common.{List, None, Some, [], refl, ℕ, ◌∷◌, ◌≡◌}
 
 abbrev done : ℕ → Access
 done r = record { run = run_no r; status = Released; view = Some Up; wrote = Some 1; from = 0; to = 0 }

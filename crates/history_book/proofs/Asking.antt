@@ -1,12 +1,5 @@
 -- A run that asks for a device has its next command there.
-use Rattle.command_rules.specs.Rosters.{command_at, commands_of, is_on, no_command}
-use Rattle.history_book.specs.Readings.{Reading, asks_on, is_next_on, next_command, next_of}
-use Rattle.history_book.specs.Settings.{Setting}
-use Rattle.home_types.specs.Commands.{holds}
-use Rattle.home_types.specs.declared.commands.Command.{Command}
-use Rattle.std.proofs.Common.{arith}
-use Rattle.std.proofs.lemmas.Grind.{common_steps}
-use Rattle.std.specs.Prelude.{List, None, Option, Some, [], false, option_map, slice_get, slice_index_or, suc, true, unwrap_or, zero, ℕ, ◌&&◌, ◌∷◌, ◌≡◌}
+use Rattle.history_book.proofs.Prelude.{Command, List, None, Option, Reading, Setting, Some, [], arith, asks_on, command_at, commands_of, common_steps, false, holds, is_next_on, is_on, next_command, next_of, no_command, option_map, slice_get, slice_index_or, suc, true, unwrap_or, zero, ℕ, ◌&&◌, ◌∷◌, ◌≡◌}
 
 pub asks_next : (w : Setting) (n : Reading) (r d : ℕ) → asks_on w n r d ≡ true → is_next_on w n r d ≡ true
 asks_next w n r d asks = at (next_command w n r) asks

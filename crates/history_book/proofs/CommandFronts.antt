@@ -1,12 +1,5 @@
 -- The devices of the first so many commands.
-use Rattle.command_rules.specs.Rosters.{is_on}
-use Rattle.home_types.specs.declared.commands.Command.{Command}
-use Rattle.std.proofs.Common.{ap, arith, ◌∙◌}
-use Rattle.std.proofs.lemmas.Grind.{common_steps}
-use Rattle.std.proofs.lemmas.List.Folds.{list_any-append}
-use Rattle.std.proofs.lemmas.List.{take_more}
-use Rattle.std.specs.List.{list_any}
-use Rattle.std.specs.Prelude.{Bool, List, [], false, get_or, length, take, ℕ, ◌+◌, ◌<◌, ◌==◌, ◌||◌, ◌∷◌, ◌≡◌, ◌≢◌}
+use Rattle.history_book.proofs.Prelude.{Bool, Command, List, [], ap, arith, common_steps, false, get_or, is_on, length, list_any, list_any-append, take, take_more, ℕ, ◌+◌, ◌<◌, ◌==◌, ◌||◌, ◌∙◌, ◌∷◌, ◌≡◌, ◌≢◌}
 
 -- one of the first so many commands is on the device
 abbrev pub is_among : ℕ → ℕ → List Command → Bool

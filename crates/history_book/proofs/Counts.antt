@@ -1,13 +1,5 @@
 -- What a reading counts, and how failures and restarts take turns.
-use Rattle.history_book.specs.Histories.{entry, is_fall_of, reading}
-use Rattle.history_book.specs.Readings.{Reading, nothing_read, put}
-use Rattle.history_book.specs.Settings.{Setting}
-use Rattle.history_book.specs.declared.entries.Entry.{Entry}
-use Rattle.history_book.specs.declared.entries.Entry.TheVariants.{Arrived, Did, Doomed, Ended, Fell, Placed, Rose, Undid}
-use Rattle.std.proofs.Common.{arith, cond, refl, ◌∙◌}
-use Rattle.std.proofs.lemmas.Grind.{common_steps}
-use Rattle.std.proofs.lemmas.List.Sums.{sum_by-cons}
-use Rattle.std.specs.Prelude.{Bool, List, [], count_by, false, fold, if◌then◌else◌, length, true, ℕ, ◌+◌, ◌==◌, ◌∷◌, ◌≡◌}
+use Rattle.history_book.proofs.Prelude.{Arrived, Bool, Did, Doomed, Ended, Entry, Fell, List, Placed, Reading, Rose, Setting, Undid, [], arith, common_steps, cond, count_by, entry, false, fold, if◌then◌else◌, is_fall_of, length, nothing_read, put, reading, refl, sum_by-cons, true, ℕ, ◌+◌, ◌==◌, ◌∙◌, ◌∷◌, ◌≡◌}
 
 -- a number of the reading that each entry raises by one where the test holds of it
 counts_from : (w : Setting) (f : Reading → ℕ) (p : Entry → Bool) → ((n : Reading) (e : Entry) → f (entry w n e) ≡ f n + cond (p e) 1 0) → (n : Reading) (h : List Entry) → f (fold (entry w) n h) ≡ f n + count_by p h

@@ -1,8 +1,5 @@
 -- What the first entry that tells something tells: by places, and after one more entry.
-use Rattle.history_book.specs.Books.{first_told}
-use Rattle.history_book.specs.declared.entries.Entry.{Entry}
-use Rattle.history_book.specs.declared.entries.Kept.{Kept}
-use Rattle.std.proofs.Common.{IfNone, IfSome, List, None, Option, Some, [], arith, length, refl, slice_index_or, suc, sym, zero, ℕ, ◌<◌, ◌≡◌, ◌∷◌}
+use Rattle.history_book.proofs.Prelude.{Entry, IfNone, IfSome, Kept, List, None, Option, Some, [], arith, first_told, length, refl, slice_index_or, suc, sym, zero, ℕ, ◌<◌, ◌∷◌, ◌≡◌}
 
 module _ {T : Type 0} (told : Entry → Option T) where
   -- no entry tells anything

@@ -1,23 +1,6 @@
 -- A run stays behind the one that it follows, where the line is rearranged.
-use Rattle.command_rules.proofs.Cited.{rearranged_any}
-use Rattle.command_rules.specs.Apart.{meet}
-use Rattle.command_rules.specs.ClosedSets.{IsClosed, chosen, others, rearranged}
-use Rattle.command_rules.specs.Items.{is_ran}
-use Rattle.command_rules.specs.Rosters.{Run, follows, shares}
+use Rattle.history_book.proofs.Prelude.{Back, Bool, Failed, Fcfs, IsClosed, Item, JustInTime, List, Ran, Reading, Run, Scheduler, Setting, Timeline, [], ap, arith, behind, chosen, common_steps, cond, false, follows, gap_set, is_ran, line_for, list_any, list_any-append, meet, others, rearranged, rearranged_any, refl, scheduler_of, shares, sym, true, ℕ, ◌++◌, ◌==◌, ◌||◌, ◌∙◌, ◌∷◌, ◌≡◌}
 use Rattle.history_book.proofs.Splits.{gap_closed}
-use Rattle.history_book.specs.Gaps.{gap_set, line_for}
-use Rattle.history_book.specs.Lines.{behind}
-use Rattle.history_book.specs.Readings.{Reading}
-use Rattle.history_book.specs.Settings.{Setting, scheduler_of}
-use Rattle.home_types.specs.declared.items.Item.TheVariants.{Back, Failed, Ran}
-use Rattle.home_types.specs.declared.items.Item.{Item}
-use Rattle.home_types.specs.declared.modes.Scheduler.TheVariants.{Fcfs, JustInTime, Timeline}
-use Rattle.home_types.specs.declared.modes.Scheduler.{Scheduler}
-use Rattle.std.proofs.Common.{ap, arith, cond, refl, sym, ◌∙◌}
-use Rattle.std.proofs.lemmas.Grind.{common_steps}
-use Rattle.std.proofs.lemmas.List.Folds.{list_any-append}
-use Rattle.std.specs.List.{list_any}
-use Rattle.std.specs.Prelude.{Bool, List, [], false, true, ℕ, ◌++◌, ◌==◌, ◌||◌, ◌∷◌, ◌≡◌}
 
 either : (b : Bool) → (b || true) ≡ true
 either true = refl

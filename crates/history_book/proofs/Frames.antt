@@ -1,14 +1,6 @@
 -- What an entry leaves: most of it by computing, the rest by put_keeps.
 use Rattle.history_book.proofs.Snoc.{put_keeps}
-use Rattle.history_book.specs.Histories.{entry}
-use Rattle.history_book.specs.Readings.{Reading, is_live}
-use Rattle.history_book.specs.Settings.{Setting}
-use Rattle.history_book.specs.declared.entries.Cause.{Cause}
-use Rattle.history_book.specs.declared.entries.Entry.TheVariants.{Did, Doomed}
-use Rattle.home_types.specs.declared.commands.Answer.{Answer}
-use Rattle.home_types.specs.declared.numbers.RunNo.{RunNo}
-use Rattle.std.proofs.Common.{refl}
-use Rattle.std.specs.Prelude.{Some, is_none, is_some, ℕ, ◌&&◌, ◌≡◌}
+use Rattle.history_book.proofs.Prelude.{Answer, Cause, Did, Doomed, Reading, RunNo, Setting, Some, entry, is_live, is_none, is_some, refl, ℕ, ◌&&◌, ◌≡◌}
 
 -- an answer leaves each run as live as it was
 pub did_live : (w : Setting) (n : Reading) (r : RunNo) (c : ℕ) (a : Answer) (q : ℕ) → is_live (entry w n (Did r c a)) q ≡ is_live n q

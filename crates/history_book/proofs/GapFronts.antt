@@ -1,20 +1,7 @@
 -- The final items of the line stand first, in their order, among the items of the set of the timeline.
-use Rattle.command_rules.proofs.Cited.{grown_holds}
-use Rattle.command_rules.specs.Apart.{meet}
-use Rattle.command_rules.specs.ClosedSets.{IsPart, chosen, others, rearranged}
-use Rattle.command_rules.specs.Items.{of_run}
+use Rattle.history_book.proofs.Prelude.{Bool, Fcfs, IsPart, Item, JustInTime, List, Reading, Scheduler, Setting, Timeline, [], ap, arith, bars, base_flags, base_of, chosen, false, gap_set, grown_holds, if◌then◌else◌, is_live, is_needed, length, line_for, map, meet, of_run, others, rearranged, refl, scheduler_of, sealed_in, sym, take, true, up_to_first, ℕ, ◌+◌, ◌∙◌, ◌∷◌, ◌≡◌, ◌≤◌}
 use Rattle.history_book.proofs.Lines.{take_next}
 use Rattle.history_book.proofs.Splits.{base_length}
-use Rattle.history_book.specs.Gaps.{bars, base_flags, base_of, gap_set, is_needed, line_for}
-use Rattle.history_book.specs.Lines.{up_to_first}
-use Rattle.history_book.specs.Readings.{Reading, is_live}
-use Rattle.history_book.specs.Sealed.{sealed_in}
-use Rattle.history_book.specs.Settings.{Setting, scheduler_of}
-use Rattle.home_types.specs.declared.items.Item.{Item}
-use Rattle.home_types.specs.declared.modes.Scheduler.TheVariants.{Fcfs, JustInTime, Timeline}
-use Rattle.home_types.specs.declared.modes.Scheduler.{Scheduler}
-use Rattle.std.proofs.Common.{ap, arith, refl, sym, ◌∙◌}
-use Rattle.std.specs.Prelude.{Bool, List, [], false, if◌then◌else◌, length, map, take, true, ℕ, ◌+◌, ◌∷◌, ◌≡◌, ◌≤◌}
 
 clash : false ≡ true → ⊥
 clash h = cc

@@ -1,30 +1,9 @@
 -- A history beside what is fixed in its window: as it opens, with one entry more, where a run joins, and what is known of a run.
-use Rattle.command_rules.specs.Rosters.{Run, command_at, commands_of, is_run}
+use Rattle.history_book.proofs.Prelude.{Answer, Arrived, Bool, Did, Doomed, End, Ended, Entry, Err, Fell, HistoryState, IsReadWith, IsTrue, IsWellFormed, Kept, List, None, Ok, OnErr, OnOk, Option, Placed, Reading, Result, Rose, Run, RunNo, RunProgress, Setting, Some, Undid, [], ap, append_assoc, arith, command_at, commands_of, common_steps, entries_of, entry, false, get_or-set_at, get_or-set_other, if◌then◌else◌, is_none, is_run, is_some, kept_by, length, length-append, length-set, may_follow, most_runs, next_of, not, nothing_read, progress_in, progress_of, read_in, reading, refl, register_after, replicate, slice_get, slice_get_within, slice_index_or, slice_set, subst, suc, sym, true, with_entry, with_joined, zero, ℕ, ◌++◌, ◌+◌, ◌-◌, ◌<◌, ◌==◌, ◌∙◌, ◌∷◌, ◌≡◌, ◌≢◌, ◌≤◌}
 use Rattle.history_book.proofs.JoinedReads.{formed_joined, same_reading}
 use Rattle.history_book.proofs.Shapes.{shapes}
 use Rattle.history_book.proofs.Snoc.{each_at, each_more, entries_on, put_keeps, reading_more}
 use Rattle.history_book.proofs.Told.{progress_is}
-use Rattle.history_book.specs.Histories.{entries_of, entry, kept_by, reading}
-use Rattle.history_book.specs.Joined.{with_joined}
-use Rattle.history_book.specs.Progress.{progress_in, progress_of}
-use Rattle.history_book.specs.ReadHistories.{HistoryState, IsReadWith, read_in, with_entry}
-use Rattle.history_book.specs.Readings.{Reading, next_of, nothing_read}
-use Rattle.history_book.specs.Settings.{Setting}
-use Rattle.history_book.specs.WellFormed.{IsWellFormed, may_follow}
-use Rattle.history_book.specs.declared.entries.End.{End}
-use Rattle.history_book.specs.declared.entries.Entry.TheVariants.{Arrived, Did, Doomed, Ended, Fell, Placed, Rose, Undid}
-use Rattle.history_book.specs.declared.entries.Entry.{Entry}
-use Rattle.history_book.specs.declared.entries.Kept.{Kept}
-use Rattle.history_book.specs.declared.progress.RunProgress.{RunProgress}
-use Rattle.home_types.specs.Commands.{register_after}
-use Rattle.home_types.specs.Limits.{most_runs}
-use Rattle.home_types.specs.declared.commands.Answer.{Answer}
-use Rattle.home_types.specs.declared.numbers.RunNo.{RunNo}
-use Rattle.std.proofs.Common.{ap, append_assoc, arith, length-append, refl, subst, sym, ◌∙◌}
-use Rattle.std.proofs.lemmas.Grind.{common_steps, get_or-set_at}
-use Rattle.std.proofs.lemmas.List.{get_or-set_other, length-set}
-use Rattle.std.proofs.lemmas.Option.{slice_get_within}
-use Rattle.std.specs.Prelude.{Bool, Err, IsTrue, List, None, Ok, OnErr, OnOk, Option, Result, Some, [], false, if◌then◌else◌, is_none, is_some, length, not, replicate, slice_get, slice_index_or, slice_set, suc, true, zero, ℕ, ◌++◌, ◌+◌, ◌-◌, ◌<◌, ◌==◌, ◌∷◌, ◌≡◌, ◌≢◌, ◌≤◌}
 
 -- a run has a number from 1 on, and a place in the roster
 pub run_place : (runs : List Run) (r : ℕ) → IsTrue (is_run runs r) → (r ≡ suc (r - 1)) × (r - 1 < length runs)

@@ -1,24 +1,7 @@
 -- What a history says stays as it is where a run joins the window: a run that has not arrived is nowhere told of.
-use Rattle.command_rules.specs.Apart.{are_tied, meet, share_device}
-use Rattle.command_rules.specs.ClosedSets.{chosen, closure, either_of, grown, rearranged, widened, wider}
-use Rattle.command_rules.specs.Items.{of_run}
-use Rattle.command_rules.specs.Rosters.{Run, commands_of, follows, is_on, is_run, reads_first, reads_unwritten, run_in_roster, shares, touches, writes_on}
+use Rattle.history_book.proofs.Prelude.{Back, Bool, Failed, Fcfs, Item, JustInTime, List, Planned, Ran, Reading, Run, Scheduler, Setting, Timeline, [], ap, are_tied, bars, base_flags, base_of, chosen, closure, commands_of, device_numbers, devices_of, did, drop, either_of, false, filter, fold, follows, free, front_for, gap_set, grown, if◌then◌else◌, is_committed, is_doomed, is_live, is_needed, is_next_on, is_on, is_open, is_overlapped, is_overwritten, is_run, is_some, line_for, list_any, map, max, meet, nat_lt, next_of, not, of_run, option_and_then, option_map, passed_by, pends, plan_more, planned_end, planned_start, planned_times, reads_first, reads_unwritten, rearranged, refl, run_in_roster, scheduler_of, share_device, shares, slice_get, split_at, split_of, suc, take, touches, true, unwrap_or, whole_end, widened, wider, with_joined, writes, writes_on, zero, ℕ, ◌&&◌, ◌++◌, ◌==◌, ◌||◌, ◌∙◌, ◌∷◌, ◌≡◌}
 use Rattle.history_book.proofs.OwnItems.{is_stray}
 use Rattle.history_book.proofs.Shapes.{Shaped}
-use Rattle.history_book.specs.Gaps.{bars, base_flags, base_of, front_for, gap_set, is_needed, is_overlapped, line_for, split_of}
-use Rattle.history_book.specs.Joined.{with_joined}
-use Rattle.history_book.specs.Lines.{split_at}
-use Rattle.history_book.specs.Plans.{free, is_overwritten, plan_more, planned_end, planned_start, planned_times, whole_end}
-use Rattle.history_book.specs.Readings.{Planned, Reading, did, is_committed, is_doomed, is_live, is_next_on, is_open, next_of, passed_by, pends}
-use Rattle.history_book.specs.Settings.{Setting, device_numbers, devices_of, scheduler_of}
-use Rattle.home_types.specs.Commands.{writes}
-use Rattle.home_types.specs.declared.items.Item.TheVariants.{Back, Failed, Ran}
-use Rattle.home_types.specs.declared.items.Item.{Item}
-use Rattle.home_types.specs.declared.modes.Scheduler.{Scheduler}
-use Rattle.home_types.specs.declared.modes.Scheduler.TheVariants.{Fcfs, JustInTime, Timeline}
-use Rattle.std.proofs.Common.{ap, refl, ◌∙◌}
-use Rattle.std.specs.List.{list_any}
-use Rattle.std.specs.Prelude.{Bool, List, [], drop, false, filter, fold, if◌then◌else◌, is_some, map, max, nat_lt, not, option_and_then, option_map, slice_get, suc, take, true, unwrap_or, zero, ℕ, ◌&&◌, ◌++◌, ◌==◌, ◌||◌, ◌∷◌, ◌≡◌}
 
 -- Lists and tests
 

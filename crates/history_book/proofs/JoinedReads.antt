@@ -1,34 +1,9 @@
 -- A history reads the same, and is as well formed, where a run joins the window that is not told of in it.
-use Rattle.command_rules.specs.Items.{of_run}
-use Rattle.command_rules.specs.Rosters.{Run, command_at, is_on, is_run, no_command, touches_from}
+use Rattle.history_book.proofs.Prelude.{Aborted, Along, Answer, Arrived, Back, Bool, Cause, Command, Committed, DeviceNo, Did, Doomed, Down, Ended, Entry, Event, Failed, Fell, Fine, First, Found, IsTrue, IsWellFormed, Item, Last, List, OfRun, Placed, Reading, Rose, Run, Setting, Skipped, Undid, [], along, answered, ap, arith, cause_fits, command_at, common_steps, did, driven, drop, entry, false, fold, front_for, if◌then◌else◌, is_access, is_doomed, is_fine, is_live, is_none, is_on, is_run, is_some, is_weak, kind_at, length, list_any, may_follow, more_if, nat_lt, next_of, no_command, not, nothing_read, of_run, planned_times, put, put_before, reading, refl, register_after, slice_index_or, split_of, subst, suits, sym, touches_from, true, with_event, with_joined, with_placed, with_run_told, ℕ, ◌&&◌, ◌++◌, ◌+◌, ◌==◌, ◌||◌, ◌∙◌, ◌∷◌, ◌≡◌}
 use Rattle.history_book.proofs.Joined.{own_commands, own_run, same_front, same_open, same_plan, same_split}
 use Rattle.history_book.proofs.OwnItems.{is_stray, stray_step}
 use Rattle.history_book.proofs.Shapes.{Shaped, shapes, shapes_step}
-use Rattle.history_book.specs.Gaps.{front_for, split_of}
-use Rattle.history_book.specs.Histories.{answered, entry, more_if, reading, with_event, with_placed, with_run_told}
-use Rattle.history_book.specs.Joined.{with_joined}
-use Rattle.history_book.specs.Lines.{put_before}
-use Rattle.history_book.specs.Plans.{planned_times}
-use Rattle.history_book.specs.Readings.{Event, First, Last, OfRun, Reading, did, is_access, is_doomed, is_fine, is_live, next_of, nothing_read, put}
-use Rattle.history_book.specs.Settings.{Setting, is_weak}
-use Rattle.history_book.specs.WellFormed.{Along, IsWellFormed, along, cause_fits, may_follow, suits}
 use Rattle.history_book.specs.declared.entries.Cause.TheVariants.{DownAtEnd, Lost, MustDown, Refuted, Revoked}
-use Rattle.history_book.specs.declared.entries.Cause.{Cause}
-use Rattle.history_book.specs.declared.entries.End.TheVariants.{Aborted, Committed}
-use Rattle.history_book.specs.declared.entries.Entry.TheVariants.{Arrived, Did, Doomed, Ended, Fell, Placed, Rose, Undid}
-use Rattle.history_book.specs.declared.entries.Entry.{Entry}
-use Rattle.home_types.specs.Commands.{driven, register_after}
-use Rattle.home_types.specs.Kinds.{kind_at}
-use Rattle.home_types.specs.declared.commands.Answer.TheVariants.{Down, Fine, Found, Skipped}
-use Rattle.home_types.specs.declared.commands.Answer.{Answer}
-use Rattle.home_types.specs.declared.commands.Command.{Command}
-use Rattle.home_types.specs.declared.items.Item.TheVariants.{Back, Failed}
-use Rattle.home_types.specs.declared.items.Item.{Item}
-use Rattle.home_types.specs.declared.numbers.DeviceNo.{DeviceNo}
-use Rattle.std.proofs.Common.{ap, arith, refl, subst, sym, ◌∙◌}
-use Rattle.std.proofs.lemmas.Grind.{common_steps}
-use Rattle.std.specs.List.{list_any}
-use Rattle.std.specs.Prelude.{Bool, IsTrue, List, [], drop, false, fold, if◌then◌else◌, is_none, is_some, length, nat_lt, not, slice_index_or, true, ℕ, ◌&&◌, ◌+◌, ◌++◌, ◌==◌, ◌||◌, ◌∷◌, ◌≡◌}
 
 -- what is known of a reading along a well-formed history
 pub record ReadsOwn (w : Setting) (n : Reading) : Type 0 where

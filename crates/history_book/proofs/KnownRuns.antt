@@ -1,21 +1,6 @@
 -- What the entries say of a run: of an empty history, and with one entry more.
 use Rattle.history_book.specs.BookParts.{IsReadAlong}
-use Rattle.history_book.specs.Books.{doom_in, end_in, first_told, is_answer_of, placing_in}
-use Rattle.history_book.specs.Progress.{arrival_in, noted, nothing_done, progress_after, progress_in, run_in, tells_of}
-use Rattle.history_book.specs.declared.entries.Entry.TheVariants.{Arrived, Did, Doomed, Ended, Fell, Placed, Rose, Undid}
-use Rattle.history_book.specs.declared.entries.Entry.{Entry}
-use Rattle.history_book.specs.declared.entries.Kept.{Kept}
-use Rattle.history_book.specs.declared.progress.RunProgress.{RunProgress}
-use Rattle.home_types.specs.Limits.{most_runs}
-use Rattle.home_types.specs.Listed.{Listed}
-use Rattle.home_types.specs.declared.numbers.RunNo.{RunNo}
-use Rattle.std.proofs.Common.{ap, arith, cond, refl, subst, sym, ◌∙◌}
-use Rattle.std.proofs.lemmas.Grind.{common_steps, get_or-set_at}
-use Rattle.std.proofs.lemmas.List.Sums.{count_by-le-length, sum_by-cons}
-use Rattle.std.proofs.lemmas.List.{get_or-set_other, take_more}
-use Rattle.std.specs.List.{position, position_or_len}
-use Rattle.std.specs.Option.{option_or}
-use Rattle.std.specs.Prelude.{Bool, List, None, Option, Some, [], count_by, drop, false, if◌then◌else◌, is_some, length, nat_lt, option_map, slice_index_or, slice_set, suc, take, true, unwrap_or, ℕ, ◌++◌, ◌+◌, ◌-◌, ◌<◌, ◌==◌, ◌∷◌, ◌≡◌, ◌≢◌, ◌≤◌}
+use Rattle.history_book.proofs.Prelude.{Arrived, Bool, Did, Doomed, Ended, Entry, Fell, Kept, List, Listed, None, Option, Placed, Rose, RunNo, RunProgress, Some, Undid, [], ap, arith, arrival_in, common_steps, cond, count_by, count_by-le-length, doom_in, drop, end_in, false, first_told, get_or-set_at, get_or-set_other, if◌then◌else◌, is_answer_of, is_some, length, most_runs, nat_lt, noted, nothing_done, option_map, option_or, placing_in, position, position_or_len, progress_after, progress_in, refl, run_in, slice_index_or, slice_set, subst, suc, sum_by-cons, sym, take, take_more, tells_of, true, unwrap_or, ℕ, ◌++◌, ◌+◌, ◌-◌, ◌<◌, ◌==◌, ◌∙◌, ◌∷◌, ◌≡◌, ◌≢◌, ◌≤◌}
 
 -- With one item more
 

@@ -1,3 +1,4 @@
+mod Prelude
 mod Snoc
 mod Lines
 mod Frames

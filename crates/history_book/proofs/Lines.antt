@@ -1,14 +1,5 @@
 -- Who stands in the line.
-use Rattle.command_rules.specs.Items.{is_ran}
-use Rattle.history_book.specs.Lines.{put_before, without}
-use Rattle.home_types.specs.declared.items.Item.{Item}
-use Rattle.home_types.specs.declared.items.Item.TheVariants.{Back, Failed, Ran}
-use Rattle.std.proofs.Common.{ap, arith, cond, refl, sym, ◌∙◌}
-use Rattle.std.proofs.lemmas.Grind.{common_steps}
-use Rattle.std.proofs.lemmas.List.{take-append-drop}
-use Rattle.std.proofs.lemmas.List.Folds.{list_any-append}
-use Rattle.std.specs.List.{list_any}
-use Rattle.std.specs.Prelude.{Bool, List, [], drop, false, filter, if◌then◌else◌, not, suc, take, true, ℕ, ◌++◌, ◌+◌, ◌||◌, ◌∷◌, ◌≡◌, ◌≢◌}
+use Rattle.history_book.proofs.Prelude.{Back, Bool, Failed, Item, List, Ran, [], ap, arith, common_steps, cond, drop, false, filter, if◌then◌else◌, is_ran, list_any, list_any-append, not, put_before, refl, suc, sym, take, take-append-drop, true, without, ℕ, ◌++◌, ◌+◌, ◌||◌, ◌∙◌, ◌∷◌, ◌≡◌, ◌≢◌}
 
 pub any_put_before : (p t : Item → Bool) (x : Item) (line : List Item) → list_any p (put_before t x line) ≡ (p x || list_any p line)
 any_put_before p t x [] = refl

@@ -1,27 +1,6 @@
 -- What the log of a device holds of each run.
-use Rattle.command_rules.specs.Items.{is_ran}
-use Rattle.command_rules.specs.Rosters.{command_at, commands_of, is_on, touches_from}
+use Rattle.history_book.proofs.Prelude.{Answer, Arrived, Back, Bool, Command, DeviceNo, Did, Doomed, Down, Ended, Entry, Event, Failed, Fell, Fine, First, Found, IsTrue, IsWellFormed, Item, Last, List, LogMark, None, OfRun, Option, Placed, Reading, Rose, RunNo, Setting, Skipped, Some, Undid, [], along, ap, arith, command_at, commands_of, common_steps, cond, drop, entry, false, fold, if◌then◌else◌, inl, inr, is_access, is_first_mark, is_last_mark, is_none, is_on, is_ran, is_some, length, length-append, list_any, list_any-append, may_follow, more_if, next_of, not, nothing_read, option_or, pends, put, reading, refl, span_of, subst, suc, sym, take_while, take_while-cons, touches_from, true, view_by, with_turn, zero, ℕ, ◌&&◌, ◌++◌, ◌+◌, ◌==◌, ◌||◌, ◌∙◌, ◌∷◌, ◌≡◌, ◌≢◌, ◌⊎◌}
 use Rattle.history_book.proofs.Snoc.{put_keeps, put_other, put_same}
-use Rattle.history_book.specs.Histories.{entry, more_if, reading, with_turn}
-use Rattle.history_book.specs.Readings.{Event, First, Last, LogMark, OfRun, Reading, is_access, is_first_mark, is_last_mark, next_of, nothing_read, pends, put, span_of, view_by}
-use Rattle.history_book.specs.Settings.{Setting}
-use Rattle.history_book.specs.WellFormed.{IsWellFormed, along, may_follow}
-use Rattle.history_book.specs.declared.entries.Entry.{Entry}
-use Rattle.history_book.specs.declared.entries.Entry.TheVariants.{Arrived, Did, Doomed, Ended, Fell, Placed, Rose, Undid}
-use Rattle.home_types.specs.declared.commands.Answer.{Answer}
-use Rattle.home_types.specs.declared.commands.Answer.TheVariants.{Down, Fine, Found, Skipped}
-use Rattle.home_types.specs.declared.commands.Command.{Command}
-use Rattle.home_types.specs.declared.items.Item.{Item}
-use Rattle.home_types.specs.declared.items.Item.TheVariants.{Back, Failed}
-use Rattle.home_types.specs.declared.numbers.DeviceNo.{DeviceNo}
-use Rattle.home_types.specs.declared.numbers.RunNo.{RunNo}
-use Rattle.std.proofs.Common.{ap, arith, cond, inl, inr, length-append, refl, subst, sym, ◌∙◌}
-use Rattle.std.proofs.lemmas.Grind.{common_steps}
-use Rattle.std.proofs.lemmas.List.Folds.{list_any-append}
-use Rattle.std.proofs.lemmas.List.Sums.{take_while-cons}
-use Rattle.std.specs.List.{list_any}
-use Rattle.std.specs.Option.{option_or}
-use Rattle.std.specs.Prelude.{Bool, IsTrue, List, None, Option, Some, [], drop, false, fold, if◌then◌else◌, is_none, is_some, length, not, suc, take_while, true, zero, ℕ, ◌&&◌, ◌++◌, ◌+◌, ◌==◌, ◌||◌, ◌∷◌, ◌≡◌, ◌≢◌, ◌⊎◌}
 
 abbrev pub LogsFirsts : Reading → Type 0
 LogsFirsts n = (r d : ℕ) → list_any (is_first_mark r) (n.log d) ≡ is_some ((n.run r).on d).view

@@ -1,30 +1,10 @@
 -- In a well-formed history a run stands in the line once where it is placed and no abort of it has ended, else not.
-use Rattle.command_rules.specs.Items.{is_ran, of_run}
+use Rattle.history_book.proofs.Prelude.{Aborted, Arrived, Back, Bool, Cause, Committed, DeviceNo, Did, Doomed, End, Ended, Entry, Failed, Fell, IsTrue, IsWellFormed, Item, List, None, OfRun, Option, Placed, Ran, Reading, Rose, RunNo, Setting, Some, Split, Undid, [], along, ap, ap₂, arith, common_steps, cond, count_by, did, entry, false, fold, front_for, if◌then◌else◌, is_none, is_open, is_ran, is_some, is_weak, may_follow, not, nothing_read, of_run, option_map, planned_times, put, put_before, reading, refl, split_of, sum_by-append, sum_by-cons, sym, true, unwrap_or, with_turn, without, ℕ, ◌&&◌, ◌++◌, ◌+◌, ◌==◌, ◌∙◌, ◌∷◌, ◌≡◌, ◌≢◌}
 use Rattle.history_book.proofs.Lines.{same_run}
 use Rattle.history_book.proofs.Shapes.{Shaped, shapes_step, unread_shape}
 use Rattle.history_book.proofs.Snoc.{put_keeps}
 use Rattle.history_book.proofs.Splits.{split_count}
 use Rattle.history_book.proofs.Standing.{is_abort, stands_in}
-use Rattle.history_book.specs.Histories.{entry, reading, with_turn}
-use Rattle.history_book.specs.Lines.{Split, put_before, without}
-use Rattle.history_book.specs.Gaps.{front_for, split_of}
-use Rattle.history_book.specs.Plans.{planned_times}
-use Rattle.history_book.specs.Readings.{OfRun, Reading, did, is_open, nothing_read, put}
-use Rattle.history_book.specs.Settings.{Setting, is_weak}
-use Rattle.history_book.specs.WellFormed.{IsWellFormed, along, may_follow}
-use Rattle.history_book.specs.declared.entries.Cause.{Cause}
-use Rattle.history_book.specs.declared.entries.End.{End}
-use Rattle.history_book.specs.declared.entries.End.TheVariants.{Aborted, Committed}
-use Rattle.history_book.specs.declared.entries.Entry.{Entry}
-use Rattle.history_book.specs.declared.entries.Entry.TheVariants.{Arrived, Did, Doomed, Ended, Fell, Placed, Rose, Undid}
-use Rattle.home_types.specs.declared.items.Item.{Item}
-use Rattle.home_types.specs.declared.items.Item.TheVariants.{Back, Failed, Ran}
-use Rattle.home_types.specs.declared.numbers.DeviceNo.{DeviceNo}
-use Rattle.home_types.specs.declared.numbers.RunNo.{RunNo}
-use Rattle.std.proofs.Common.{ap, ap₂, arith, cond, refl, sym, ◌∙◌}
-use Rattle.std.proofs.lemmas.Grind.{common_steps}
-use Rattle.std.proofs.lemmas.List.Sums.{sum_by-append, sum_by-cons}
-use Rattle.std.specs.Prelude.{Bool, IsTrue, List, None, Option, Some, [], count_by, false, fold, if◌then◌else◌, is_none, is_some, not, option_map, true, unwrap_or, ℕ, ◌&&◌, ◌++◌, ◌+◌, ◌==◌, ◌∷◌, ◌≡◌, ◌≢◌}
 
 count_cons : {A : Type 0} (p : A → Bool) (x : A) (xs : List A) → count_by p (x ∷ xs) ≡ cond (p x) 1 0 + count_by p xs
 count_cons p x xs = sum_by-cons (λ y. cond (p y) 1 0) x xs

@@ -1,18 +1,6 @@
 -- What the reading says, in words of the entries alone.
-use Rattle.command_rules.specs.Rosters.{command_at}
+use Rattle.history_book.proofs.Prelude.{Answer, Arrived, Did, Doomed, Ended, Entry, Fell, List, None, Option, Placed, Reading, Rose, Setting, Some, Undid, [], answered, ap, append-nil, append_assoc, arith, command_at, common_steps, cons_option, driven, entry, false, filter_map, fold, if◌then◌else◌, is_some, kind_at, nothing_read, option_to_list, put, reading, refl, register_after, sym, true, ℕ, ◌++◌, ◌==◌, ◌||◌, ◌∙◌, ◌∷◌, ◌≡◌}
 use Rattle.history_book.proofs.Snoc.{put_keeps}
-use Rattle.history_book.specs.Histories.{answered, entry, reading}
-use Rattle.history_book.specs.Readings.{Reading, nothing_read, put}
-use Rattle.history_book.specs.Settings.{Setting}
-use Rattle.history_book.specs.declared.entries.Entry.{Entry}
-use Rattle.history_book.specs.declared.entries.Entry.TheVariants.{Arrived, Did, Doomed, Ended, Fell, Placed, Rose, Undid}
-use Rattle.home_types.specs.Commands.{driven, register_after}
-use Rattle.home_types.specs.Kinds.{kind_at}
-use Rattle.home_types.specs.declared.commands.Answer.{Answer}
-use Rattle.std.proofs.Common.{ap, append-nil, append_assoc, arith, refl, sym, ◌∙◌}
-use Rattle.std.proofs.lemmas.Grind.{common_steps}
-use Rattle.std.specs.List.{cons_option}
-use Rattle.std.specs.Prelude.{List, None, Option, Some, [], false, filter_map, fold, if◌then◌else◌, is_some, option_to_list, true, ℕ, ◌++◌, ◌==◌, ◌||◌, ◌∷◌, ◌≡◌}
 
 -- the answer that an entry gives to the run
 abbrev pub answer_by : ℕ → Entry → Option Answer

@@ -1,30 +1,11 @@
 -- The items before the first live run stay as they are, and do not become fewer, with one entry more; and so along a history.
-use Rattle.command_rules.specs.Items.{is_ran, of_run}
-use Rattle.command_rules.specs.Rosters.{is_run}
+use Rattle.history_book.proofs.Prelude.{Aborted, Along, Arrived, Back, BeginsWithSealed, Bool, Committed, Did, Doomed, Ended, Entry, Failed, Fell, IsPlacedBehind, IsTrue, IsWellFormed, Item, List, None, OfRun, Option, Placed, PlacedAt, Ran, Reading, Rose, Setting, Some, StaysSealed, Undid, [], along, ap, arith, common_steps, cond, did, drop, entry, false, fold, front_for, if◌then◌else◌, is_cause_of, is_doomed, is_live, is_none, is_open, is_ran, is_run, is_some, is_weak, length, line_for, line_of, list_any, may_follow, not, nothing_read, of_run, pends, planned_times, put_before, reading, refl, sealed_in, sealed_of, split_of, subst, suc, sym, take, take-append-drop, true, up_to_first, without, zero, ℕ, ◌&&◌, ◌++◌, ◌+◌, ◌==◌, ◌||◌, ◌∙◌, ◌∷◌, ◌≡◌, ◌≤◌}
 use Rattle.history_book.proofs.GapFronts.{line_front}
 use Rattle.history_book.proofs.Lines.{take_next}
 use Rattle.history_book.proofs.Shapes.{put_all}
 use Rattle.history_book.proofs.Snoc.{along_on, put_keeps, reading_on}
 use Rattle.history_book.proofs.Splits.{line_length}
 use Rattle.history_book.proofs.Standing.{Standing, standing, standing_step}
-use Rattle.history_book.specs.Gaps.{front_for, line_for, split_of}
-use Rattle.history_book.specs.Histories.{entry, line_of, reading}
-use Rattle.history_book.specs.Lines.{put_before, up_to_first, without}
-use Rattle.history_book.specs.Plans.{planned_times}
-use Rattle.history_book.specs.Readings.{OfRun, PlacedAt, Reading, did, is_doomed, is_live, is_open, nothing_read, pends}
-use Rattle.history_book.specs.Sealed.{BeginsWithSealed, IsPlacedBehind, StaysSealed, sealed_in, sealed_of}
-use Rattle.history_book.specs.Settings.{Setting, is_weak}
-use Rattle.history_book.specs.WellFormed.{Along, IsWellFormed, along, is_cause_of, may_follow}
-use Rattle.history_book.specs.declared.entries.End.TheVariants.{Aborted, Committed}
-use Rattle.history_book.specs.declared.entries.Entry.{Entry}
-use Rattle.history_book.specs.declared.entries.Entry.TheVariants.{Arrived, Did, Doomed, Ended, Fell, Placed, Rose, Undid}
-use Rattle.home_types.specs.declared.items.Item.TheVariants.{Back, Failed, Ran}
-use Rattle.home_types.specs.declared.items.Item.{Item}
-use Rattle.std.proofs.Common.{ap, arith, cond, refl, subst, sym, ◌∙◌}
-use Rattle.std.proofs.lemmas.Grind.{common_steps}
-use Rattle.std.proofs.lemmas.List.{take-append-drop}
-use Rattle.std.specs.List.{list_any}
-use Rattle.std.specs.Prelude.{Bool, IsTrue, List, None, Option, Some, [], drop, false, fold, if◌then◌else◌, is_none, is_some, length, not, suc, take, true, zero, ℕ, ◌++◌, ◌+◌, ◌&&◌, ◌==◌, ◌||◌, ◌∷◌, ◌≡◌, ◌≤◌}
 
 -- Lists
 

@@ -1,10 +1,5 @@
 -- What a search through a list finds.
-use Rattle.command_rules.specs.Rosters.{touches}
-use Rattle.history_book.specs.Settings.{Setting, device_numbers, devices_of, is_device}
-use Rattle.std.proofs.Common.{ap, arith, cond, refl, subst}
-use Rattle.std.proofs.lemmas.Grind.{common_steps}
-use Rattle.std.specs.List.{range_with_len}
-use Rattle.std.specs.Prelude.{Bool, List, None, Option, Some, [], false, filter, find, is_none, length, nat_lt, option_map, suc, true, unwrap_or, zero, ℕ, ⊤, ◌+◌, ◌∷◌, ◌≡◌, ◌≤◌}
+use Rattle.history_book.proofs.Prelude.{Bool, List, None, Option, Setting, Some, [], ap, arith, common_steps, cond, device_numbers, devices_of, false, filter, find, is_device, is_none, length, nat_lt, option_map, range_with_len, refl, subst, suc, touches, true, unwrap_or, zero, ℕ, ⊤, ◌+◌, ◌∷◌, ◌≡◌, ◌≤◌}
 
 abbrev pub Each : {A : Type 0} → (A → Type 0) → List A → Type 0
 Each P [] = ⊤

@@ -1,8 +1,5 @@
 -- Searches along numbers, one after another.
-use Rattle.std.proofs.Common.{ap, arith, refl, sym, ◌∙◌}
-use Rattle.std.specs.List.{range_with_len}
-use Rattle.std.specs.Option.{option_or}
-use Rattle.std.specs.Prelude.{Bool, None, Option, Some, [], false, find, suc, true, ℕ, ◌+◌, ◌-◌, ◌<◌, ◌∷◌, ◌≡◌, ◌≤◌}
+use Rattle.history_book.proofs.Prelude.{Bool, None, Option, Some, [], ap, arith, false, find, option_or, range_with_len, refl, suc, sym, true, ℕ, ◌+◌, ◌-◌, ◌<◌, ◌∙◌, ◌∷◌, ◌≡◌, ◌≤◌}
 
 -- the next number, and those behind it
 pub next_number : (p : ℕ → Bool) (a n i : ℕ) → i < n → find p (range_with_len (a + i) (n - i)) ≡ option_or (find p ((a + i) ∷ [])) (find p (range_with_len (a + (i + 1)) (n - (i + 1))))

@@ -1,30 +1,10 @@
 -- What a well-formed history says of each run.
-use Rattle.command_rules.specs.Rosters.{command_at, commands_of, is_on, is_run, no_command, touches}
+use Rattle.history_book.proofs.Prelude.{Aborted, Answer, Arrived, Bool, Cause, Command, Committed, Did, Doomed, Down, End, Ended, Entry, Fell, Fine, Found, IsTrue, IsWellFormed, List, None, OfRun, OnDevice, Option, Placed, PlacedAt, Planned, Reading, Rose, Setting, Skipped, Some, Undid, [], along, answered, ap, arith, command_at, commands_of, common_steps, did, entry, false, fold, holds, if◌then◌else◌, is_access, is_always, is_committing, is_doomed, is_none, is_on, is_run, is_some, kind_at, length, length-append, list_all, list_all-append, list_any, may_follow, no_command, not, nothing_read, option_map, option_or, passed_by, pends, put, reading, refl, same_cause, slice_index_or, subst, suc, suits, sym, take, touches, true, unread, untouched_device, unwrap_or, view_by, zero, ℕ, ◌&&◌, ◌++◌, ◌+◌, ◌<◌, ◌==◌, ◌||◌, ◌∙◌, ◌∷◌, ◌≡◌, ◌≤◌}
 use Rattle.history_book.proofs.Lines.{any_left}
 use Rattle.history_book.proofs.Standing.{aborted}
-use Rattle.history_book.specs.Histories.{answered, entry, reading}
-use Rattle.history_book.specs.Readings.{OfRun, OnDevice, PlacedAt, Planned, Reading, did, is_access, is_committing, is_doomed, nothing_read, passed_by, pends, put, unread, untouched_device, view_by}
-use Rattle.history_book.specs.Settings.{Setting}
-use Rattle.history_book.specs.WellFormed.{IsWellFormed, along, may_follow, same_cause, suits}
-use Rattle.history_book.specs.declared.entries.Cause.{Cause}
-use Rattle.history_book.specs.declared.entries.End.{End}
-use Rattle.history_book.specs.declared.entries.End.TheVariants.{Aborted, Committed}
-use Rattle.history_book.specs.declared.entries.Entry.{Entry}
-use Rattle.history_book.specs.declared.entries.Entry.TheVariants.{Arrived, Did, Doomed, Ended, Fell, Placed, Rose, Undid}
-use Rattle.home_types.specs.Commands.{holds, is_always}
-use Rattle.home_types.specs.Kinds.{kind_at}
-use Rattle.home_types.specs.declared.commands.Answer.{Answer}
-use Rattle.home_types.specs.declared.commands.Answer.TheVariants.{Down, Fine, Found, Skipped}
-use Rattle.home_types.specs.declared.commands.Command.{Command}
 use Rattle.home_types.specs.declared.commands.Guard.{Guard}
 use Rattle.home_types.specs.declared.commands.Guard.TheVariants.{Always, Below, Is}
 use Rattle.home_types.specs.declared.kinds.Kind.{Kind}
-use Rattle.std.proofs.Common.{ap, arith, length-append, refl, subst, sym, ◌∙◌}
-use Rattle.std.proofs.lemmas.Grind.{common_steps}
-use Rattle.std.proofs.lemmas.List.Folds.{list_all-append}
-use Rattle.std.specs.List.{list_all, list_any}
-use Rattle.std.specs.Option.{option_or}
-use Rattle.std.specs.Prelude.{Bool, IsTrue, List, None, Option, Some, [], false, fold, if◌then◌else◌, is_none, is_some, length, not, option_map, slice_index_or, suc, take, true, unwrap_or, zero, ℕ, ◌&&◌, ◌++◌, ◌+◌, ◌<◌, ◌==◌, ◌||◌, ◌∷◌, ◌≡◌, ◌≤◌}
 
 abbrev pub committed_in : OfRun → Bool
 committed_in o = unwrap_or (option_map is_committing o.ended) false

@@ -1,15 +1,5 @@
 -- One entry more.
-use Rattle.history_book.specs.Histories.{entries_of, entry, kept_by, reading}
-use Rattle.history_book.specs.Readings.{Reading, nothing_read, put}
-use Rattle.history_book.specs.Settings.{Setting}
-use Rattle.history_book.specs.WellFormed.{Along, along, each_entry}
-use Rattle.history_book.specs.declared.entries.Entry.{Entry}
-use Rattle.history_book.specs.declared.entries.Kept.{Kept}
-use Rattle.std.proofs.Common.{ap, arith, refl, ◌∙◌}
-use Rattle.std.proofs.lemmas.Grind.{common_steps}
-use Rattle.std.proofs.lemmas.List.{map-append}
-use Rattle.std.proofs.lemmas.List.Sums.{fold-append}
-use Rattle.std.specs.Prelude.{Bool, IsTrue, List, [], fold, ℕ, ◌&&◌, ◌++◌, ◌∷◌, ◌≡◌, ◌≢◌}
+use Rattle.history_book.proofs.Prelude.{Along, Bool, Entry, IsTrue, Kept, List, Reading, Setting, [], along, ap, arith, common_steps, each_entry, entries_of, entry, fold, fold-append, kept_by, map-append, nothing_read, put, reading, refl, ℕ, ◌&&◌, ◌++◌, ◌∙◌, ◌∷◌, ◌≡◌, ◌≢◌}
 
 -- a history with one entry more reads as that entry after the reading of the history
 pub reading_more : (w : Setting) (h : List Entry) (e : Entry) → reading w (h ++ e ∷ []) ≡ entry w (reading w h) e

@@ -1,20 +1,6 @@
 -- All that is known of where a run is placed: each test and count of the line, and each device's own part of it, stay.
 -- Nothing else of `split_of` is used in proofs.
-use Rattle.command_rules.proofs.Cited.{grown_closed, grown_holds, of_one_device, part_kept, rearranged_any, rearranged_count}
-use Rattle.command_rules.specs.Apart.{meet}
-use Rattle.command_rules.specs.ClosedSets.{IsClosed, IsPart, chosen, grown, others, rearranged}
-use Rattle.command_rules.specs.Items.{of_run}
-use Rattle.history_book.specs.Gaps.{bars, base_flags, base_of, gap_set, is_needed, line_for, split_of}
-use Rattle.history_book.specs.Lines.{is_item_on}
-use Rattle.history_book.specs.Readings.{Reading, is_live}
-use Rattle.history_book.specs.Settings.{Setting, scheduler_of}
-use Rattle.home_types.specs.declared.items.Item.{Item}
-use Rattle.home_types.specs.declared.modes.Scheduler.{Scheduler}
-use Rattle.home_types.specs.declared.modes.Scheduler.TheVariants.{Fcfs, JustInTime, Timeline}
-use Rattle.std.proofs.Common.{ap, refl, ◌∙◌}
-use Rattle.std.proofs.lemmas.List.{length-map, take-append-drop}
-use Rattle.std.specs.List.{list_any}
-use Rattle.std.specs.Prelude.{Bool, List, [], count_by, false, filter, if◌then◌else◌, length, map, suc, true, ℕ, ◌++◌, ◌||◌, ◌∷◌, ◌≡◌}
+use Rattle.history_book.proofs.Prelude.{Bool, Fcfs, IsClosed, IsPart, Item, JustInTime, List, Reading, Scheduler, Setting, Timeline, [], ap, bars, base_flags, base_of, chosen, count_by, false, filter, gap_set, grown, grown_closed, grown_holds, if◌then◌else◌, is_item_on, is_live, is_needed, length, length-map, line_for, list_any, map, meet, of_one_device, of_run, others, part_kept, rearranged, rearranged_any, rearranged_count, refl, scheduler_of, split_of, suc, take-append-drop, true, ℕ, ◌++◌, ◌||◌, ◌∙◌, ◌∷◌, ◌≡◌}
 
 -- the device's own part of a line
 abbrev pub part : Setting → ℕ → List Item → List Item

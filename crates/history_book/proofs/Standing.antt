@@ -1,27 +1,8 @@
 -- In a well-formed history a run stands in the line exactly where it is placed and no abort of it has ended.
-use Rattle.command_rules.specs.Items.{is_ran, of_run}
+use Rattle.history_book.proofs.Prelude.{Aborted, Arrived, Back, Bool, Committed, DeviceNo, Did, Doomed, End, Ended, Entry, Failed, Fell, IsTrue, Item, List, None, OfRun, Placed, Ran, Reading, Rose, RunNo, Setting, Some, Undid, [], along, ap, ap₂, arith, common_steps, did, driven, entry, false, filter, fold, front_for, if◌then◌else◌, is_none, is_open, is_ran, is_some, is_weak, is_well_formed, list_any, may_follow, not, nothing_read, of_run, option_map, planned_times, put, reading, refl, split_of, sym, true, unwrap_or, with_turn, ℕ, ◌&&◌, ◌+◌, ◌==◌, ◌||◌, ◌∙◌, ◌∷◌, ◌≡◌}
 use Rattle.history_book.proofs.Lines.{any_insert, any_other, any_put_before, any_without}
 use Rattle.history_book.proofs.Snoc.{put_keeps}
 use Rattle.history_book.proofs.Splits.{split_any}
-use Rattle.history_book.specs.Histories.{entry, reading, with_turn}
-use Rattle.history_book.specs.Gaps.{front_for, split_of}
-use Rattle.history_book.specs.Plans.{planned_times}
-use Rattle.history_book.specs.Readings.{OfRun, Reading, did, is_open, nothing_read, put}
-use Rattle.history_book.specs.Settings.{Setting, is_weak}
-use Rattle.history_book.specs.WellFormed.{along, is_well_formed, may_follow}
-use Rattle.history_book.specs.declared.entries.End.{End}
-use Rattle.history_book.specs.declared.entries.End.TheVariants.{Aborted, Committed}
-use Rattle.history_book.specs.declared.entries.Entry.{Entry}
-use Rattle.history_book.specs.declared.entries.Entry.TheVariants.{Arrived, Did, Doomed, Ended, Fell, Placed, Rose, Undid}
-use Rattle.home_types.specs.Commands.{driven}
-use Rattle.home_types.specs.declared.items.Item.{Item}
-use Rattle.home_types.specs.declared.items.Item.TheVariants.{Back, Failed, Ran}
-use Rattle.home_types.specs.declared.numbers.DeviceNo.{DeviceNo}
-use Rattle.home_types.specs.declared.numbers.RunNo.{RunNo}
-use Rattle.std.proofs.Common.{ap, ap₂, arith, refl, sym, ◌∙◌}
-use Rattle.std.proofs.lemmas.Grind.{common_steps}
-use Rattle.std.specs.List.{list_any}
-use Rattle.std.specs.Prelude.{Bool, IsTrue, List, None, Some, [], false, filter, fold, if◌then◌else◌, is_none, is_some, not, option_map, true, unwrap_or, ℕ, ◌&&◌, ◌+◌, ◌==◌, ◌||◌, ◌∷◌, ◌≡◌}
 
 abbrev pub is_abort : End → Bool
 is_abort Committed = false

@@ -1,24 +1,8 @@
 -- What the book tells of the end, the doom, the placing and the answers of a run is what the history says.
 use Rattle.history_book.proofs.KnownRuns.{position_cons}
 use Rattle.history_book.proofs.Snoc.{put_keeps}
-use Rattle.history_book.specs.Books.{answer_count, doom_in, doom_of, end_in, end_of, is_answer_of, placing_in, placing_of}
-use Rattle.history_book.specs.Histories.{entries_of, entry, reading}
-use Rattle.history_book.specs.Progress.{arrival_in, arrival_of, progress_in, progress_of}
-use Rattle.history_book.specs.Readings.{OfRun, PlacedAt, Reading, next_of, nothing_read, put}
-use Rattle.history_book.specs.Settings.{Setting}
-use Rattle.history_book.specs.WellFormed.{IsWellFormed, along, may_follow}
-use Rattle.history_book.specs.declared.entries.Cause.{Cause}
-use Rattle.history_book.specs.declared.entries.End.TheVariants.{Aborted, Committed}
-use Rattle.history_book.specs.declared.entries.Entry.TheVariants.{Arrived, Did, Doomed, Ended, Fell, Placed, Rose, Undid}
-use Rattle.history_book.specs.declared.entries.Entry.{Entry}
-use Rattle.history_book.specs.declared.entries.Kept.{Kept}
-use Rattle.home_types.specs.declared.commands.Answer.{Answer}
-use Rattle.std.proofs.Common.{ap, arith, cond, refl, sym, ◌∙◌}
-use Rattle.std.proofs.lemmas.Grind.{common_steps}
-use Rattle.std.proofs.lemmas.List.Sums.{sum_by-cons}
+use Rattle.history_book.proofs.Prelude.{Aborted, Answer, Arrived, Bool, Cause, Committed, Did, Doomed, Ended, Entry, Fell, IsTrue, IsWellFormed, Kept, List, None, OfRun, Option, Placed, PlacedAt, Reading, Rose, Setting, Some, Undid, [], along, answer_count, ap, arith, arrival_in, arrival_of, common_steps, cond, doom_in, doom_of, end_in, end_of, entries_of, entry, false, fold, if◌then◌else◌, is_answer_of, is_none, is_some, length, may_follow, next_of, nothing_read, option_map, option_or, placing_in, placing_of, progress_in, progress_of, put, reading, refl, sum_by-cons, sym, true, ℕ, ◌++◌, ◌+◌, ◌==◌, ◌∙◌, ◌∷◌, ◌≡◌}
 use Rattle.std.proofs.lemmas.List.{length-append}
-use Rattle.std.specs.Option.{option_or}
-use Rattle.std.specs.Prelude.{Bool, IsTrue, List, None, Option, Some, [], false, fold, if◌then◌else◌, is_none, is_some, length, option_map, true, ℕ, ◌++◌, ◌+◌, ◌==◌, ◌∷◌, ◌≡◌}
 
 or_none : {T : Type 0} (o : Option T) → o ≡ option_or o None
 or_none None = refl

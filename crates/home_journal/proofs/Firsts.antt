@@ -1,11 +1,6 @@
 -- One state after another is kept.
-use Rattle.home_journal.specs.Journals.{KeepsFirst}
-use Rattle.home_types.specs.declared.kinds.Kind.{Kind}
-use Rattle.home_types.specs.declared.worlds.Stand.{Stand}
+use Rattle.home_journal.proofs.Prelude.{KeepsFirst, Kind, List, Ok, Stand, [], ap, append-nil, append_assoc, arith, get_or, get_or-map, length, length-map, map, subst, suc, sym, take, take_all, take_more, zero, ℕ, ◌++◌, ◌+◌, ◌<◌, ◌∙◌, ◌∷◌, ◌≡◌}
 use Rattle.home_types.specs.declared.worlds.World.{World}
-use Rattle.std.proofs.Common.{List, [], ap, append_assoc, arith, get_or, length, map, subst, suc, sym, take, zero, ℕ, ◌++◌, ◌+◌, ◌<◌, ◌≡◌, ◌∙◌, ◌∷◌}
-use Rattle.std.proofs.lemmas.List.{append-nil, get_or-map, length-map, take_all, take_more}
-use Rattle.std.specs.Prelude.{Ok}
 
 -- one more of the new ones
 pub one_more : (homes new : List (List Stand)) (i : ℕ) (home : List Stand) → i < length new → home ≡ get_or new i [] → (homes ++ take i new) ++ home ∷ [] ≡ homes ++ take (i + 1) new

@@ -1,8 +1,6 @@
 -- What a crash may leave of a disk in memory.
-use Rattle.home_journal.specs.Disks.{Torn}
-use Rattle.home_journal.specs.MemoryDisks.{CrashMayLeave}
+use Rattle.home_journal.proofs.Prelude.{Bool, CrashMayLeave, List, Torn, [], arith, false, if◌then◌else◌, refl, true, ℕ, ◌∷◌}
 use Rattle.home_journal.specs.WrittenRanges.{Range}
-use Rattle.std.proofs.Common.{Bool, List, [], arith, false, if◌then◌else◌, refl, true, ℕ, ◌∷◌}
 
 -- a write that a crash undoes whole
 pub torn_same : (at n : ℕ) (c : List ℕ) → Torn at n c c

@@ -1,16 +1,8 @@
 -- From open slots to the states that they tell.
 use Rattle.home_journal.proofs.Scanning.{if_kept}
 use Rattle.home_journal.proofs.StateBytes.{last_pushed, round_trip, states_push}
-use Rattle.home_journal.specs.Journals.{IsStateOf, KeepsFirst, KnowsKept, last_kept}
-use Rattle.home_journal.specs.KeptStates.{kept_states, states_from}
-use Rattle.home_journal.specs.SlotFiles.{IsBeforeOrAfter}
-use Rattle.home_journal.specs.Slots.{body_size, open_slots, slot_state, state_bytes}
+use Rattle.home_journal.proofs.Prelude.{All, IsBeforeOrAfter, IsStateOf, KeepsFirst, Kind, KnowsKept, List, Ok, Option, Stand, [], ap, append-nil, arith, body_size, inl, inr, kept_states, last_kept, length, length-append, open_slots, slot_state, state_bytes, states_from, sym, ℕ, ◌++◌, ◌+◌, ◌<◌, ◌^◌, ◌∙◌, ◌∷◌, ◌≡◌, ◌≤◌}
 use Rattle.home_types.specs.Limits.{most_devices, most_windows}
-use Rattle.home_types.specs.declared.kinds.Kind.{Kind}
-use Rattle.home_types.specs.declared.worlds.Stand.{Stand}
-use Rattle.std.proofs.Common.{All, List, [], ap, arith, inl, inr, length, length-append, sym, ℕ, ◌++◌, ◌+◌, ◌<◌, ◌^◌, ◌≡◌, ◌≤◌, ◌∙◌, ◌∷◌}
-use Rattle.std.proofs.lemmas.List.{append-nil}
-use Rattle.std.specs.Prelude.{Ok, Option}
 
 -- the same open slots tell the same states
 pub same_states : (kinds : List Kind) (size most : ℕ) (c d : List ℕ) → size ≡ body_size (length kinds) → open_slots size most c ≡ open_slots size most d → kept_states kinds most c ≡ kept_states kinds most d

@@ -1,16 +1,6 @@
 -- Each state that a file keeps is one of the kinds.
-use Rattle.home_journal.specs.Journals.{IsStateOf, KnowsKept, last_kept}
-use Rattle.home_journal.specs.KeptStates.{states_from, with_first}
-use Rattle.home_journal.specs.Slots.{body_size, open_slots, slot_state, stands_of}
-use Rattle.home_types.specs.HomeStates.{stand_at}
-use Rattle.home_types.specs.Kinds.{has_value, kind_at}
-use Rattle.home_types.specs.declared.kinds.Kind.{Kind}
-use Rattle.home_types.specs.declared.worlds.Stand.{Stand}
-use Rattle.std.proofs.Common.{List, [], ap, arith, false, length, refl, subst, suc, sym, true, zero, ℕ, ◌+◌, ◌<◌, ◌≡◌, ◌∙◌, ◌∷◌}
-use Rattle.std.proofs.lemmas.Bool.Decides.{nat_tests}
-use Rattle.std.specs.Int.{from_le_bytes, w16, w32}
-use Rattle.std.specs.Option.{option_map}
-use Rattle.std.specs.Prelude.{Bool, Err, None, Ok, Option, Result, Some, if◌then◌else◌, nat_le, slice_get, ◌&&◌, ◌==◌, ◌-◌}
+use Rattle.home_journal.proofs.Prelude.{Bool, Err, IsStateOf, Kind, KnowsKept, List, None, Ok, Option, Result, Some, Stand, [], ap, arith, body_size, false, from_le_bytes, has_value, if◌then◌else◌, kind_at, last_kept, length, nat_le, nat_tests, open_slots, option_map, refl, slice_get, slot_state, stand_at, stands_of, states_from, subst, suc, sym, true, with_first, zero, ℕ, ◌&&◌, ◌+◌, ◌-◌, ◌<◌, ◌==◌, ◌∙◌, ◌∷◌, ◌≡◌}
+use Rattle.std.specs.Int.{w16, w32}
 
 -- one device more in front
 state_more : (kind : Kind) (kinds : List Kind) (s : Stand) (home : List Stand) → has_value kind s.value ≡ true → IsStateOf kinds home → IsStateOf (kind ∷ kinds) (s ∷ home)

@@ -1,6 +1,7 @@
 mod Images
 mod Moments
 mod OpenSlots
+mod Prelude
 mod StateBytes
 mod Scanning
 mod Shutting

@@ -1,6 +1,5 @@
 -- How a run of calls of a disk goes on.
-use Rattle.home_journal.specs.Disks.{LeavesOnly}
-use Rattle.std.proofs.Common.{List, arith, inl, inr, ℕ, ⊎_elim}
+use Rattle.home_journal.proofs.Prelude.{LeavesOnly, List, arith, inl, inr, ℕ, ⊎_elim}
 
 module _ {D : Type 0} (moment : D → ℕ) (since : D → ℕ → List ℕ → Type 0) where
   -- two runs, one after the other

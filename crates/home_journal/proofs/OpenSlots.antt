@@ -1,13 +1,6 @@
 -- Slots that are written, and what a crash leaves of them.
-use Rattle.std.proofs.Common.{◌≡◌, ◌≢◌, ◌≤◌, ◌<◌, ◌⊎◌, inl, inr, ℕ, zero, suc, ◌+◌, ◌-◌, ◌*◌, List, [], ◌∷◌, ◌++◌, length, take, drop, get_or, All, refl, sym, ap, ◌∙◌, subst, arith, append_assoc, length-append, take-append-drop, suc-mul}
-use Rattle.std.specs.Prelude.{Result, Ok, Err, OnOk}
+use Rattle.home_journal.proofs.Prelude.{All, All-append, AreSlots, Err, Holds, IsBeforeOrAfter, IsSettled, LeavesThis, List, Ok, OnOk, Result, Torn, [], ap, append-nil, append_assoc, arith, drop, drop_at, drop_more, get_or, inl, inr, length, length-append, nat_tests, open_slots, refl, slots_of, subst, suc, suc-mul, sym, take, take-append-drop, take_at, zero, ℕ, ◌*◌, ◌++◌, ◌+◌, ◌-◌, ◌<◌, ◌∙◌, ◌∷◌, ◌≡◌, ◌≢◌, ◌≤◌, ◌⊎◌}
 use Rattle.std.proofs.lemmas.Bool.{cases_eq}
-use Rattle.std.proofs.lemmas.Bool.Decides.{nat_tests}
-use Rattle.std.proofs.lemmas.List.{append-nil, take_at, drop_at, drop_more}
-use Rattle.std.proofs.lemmas.List.Elements.{All-append}
-use Rattle.home_journal.specs.Disks.{Holds, Torn, LeavesThis}
-use Rattle.home_journal.specs.SlotFiles.{slots_of, AreSlots, IsSettled, IsBeforeOrAfter}
-use Rattle.home_journal.specs.Slots.{open_slots}
 
 pub kept_open : (size most : ℕ) (w tail : List ℕ) → length w ≡ size → 0 < length tail → open_slots size (suc most) (1 ∷ (w ++ tail)) ≡ w ∷ open_slots size most tail
 kept_open size most w tail is some =

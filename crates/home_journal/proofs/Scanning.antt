@@ -1,20 +1,7 @@
 -- What a scan of the slots knows.
 use Rattle.home_journal.proofs.OpenSlots.{kept_shut, kept_slots, one_size, slots-length, slots_push}
 use Rattle.home_journal.proofs.StateBytes.{last_pushed, states_bad, states_length, states_push}
-use Rattle.home_journal.specs.Journals.{KnowsKept, last_kept, last_kept_home}
-use Rattle.home_journal.specs.KeptStates.{kept_states, states_from}
-use Rattle.home_journal.specs.SlotFiles.{AreSlots, IsFound, slots_of}
-use Rattle.home_journal.specs.Slots.{body_size, is_to_shut, open_slots, slot_state}
-use Rattle.home_journal.specs.declared.scans.Found.{Found}
-use Rattle.home_types.specs.declared.kinds.Kind.{Kind}
-use Rattle.home_types.specs.declared.worlds.Stand.{Stand}
-use Rattle.std.proofs.Common.{All, Bool, List, None, Some, [], ap, append_assoc, arith, drop, false, get_or, length, length-append, length-drop, min, refl, subst, suc, suc-mul, sym, take, take-append-drop, true, true≢false, zero, ℕ, ◌*◌, ◌++◌, ◌+◌, ◌-◌, ◌<◌, ◌≡◌, ◌≢◌, ◌≤◌, ◌∙◌, ◌∷◌}
-use Rattle.std.proofs.lemmas.Bool.Decides.{nat_tests}
-use Rattle.std.proofs.lemmas.Grind.{common_steps}
-use Rattle.std.proofs.lemmas.List.Elements.{All-append}
-use Rattle.std.proofs.lemmas.List.{append-nil, drop-take, length-take, length-take-le, take-take, take_all, take_rest}
-use Rattle.std.proofs.lemmas.Nat.{mul-le}
-use Rattle.std.specs.Prelude.{Err, Ok, nat_lt, slice_get, ◌&&◌, ◌==◌}
+use Rattle.home_journal.proofs.Prelude.{All, All-append, AreSlots, Bool, Err, Found, IsFound, Kind, KnowsKept, List, None, Ok, Some, Stand, [], ap, append-nil, append_assoc, arith, body_size, common_steps, drop, drop-take, false, get_or, is_to_shut, kept_states, last_kept, last_kept_home, length, length-append, length-drop, length-take, length-take-le, min, mul-le, nat_lt, nat_tests, open_slots, refl, slice_get, slot_state, slots_of, states_from, subst, suc, suc-mul, sym, take, take-append-drop, take-take, take_all, take_rest, true, true≢false, zero, ℕ, ◌&&◌, ◌*◌, ◌++◌, ◌+◌, ◌-◌, ◌<◌, ◌==◌, ◌∙◌, ◌∷◌, ◌≡◌, ◌≢◌, ◌≤◌}
 
 -- slots were read up to this place, these bytes are left, and the state of the last one is known
 pub record IsScannedTo (kinds : List Kind) (size place : ℕ) (bytes rest : List ℕ) (last : List Stand) : Type 0 where

@@ -2,14 +2,7 @@
 use Rattle.home_journal.proofs.OpenSlots.{kept_shut, kept_slots, slots-length}
 use Rattle.home_journal.proofs.Scanning.{get_behind, open_before, open_short}
 use Rattle.home_journal.proofs.StateBytes.{if_both, if_not_first, if_not_second}
-use Rattle.home_journal.specs.Disks.{Holds, LeavesThis, Torn}
-use Rattle.home_journal.specs.SlotFiles.{AreSlots, IsFound, IsSettled, slots_of}
-use Rattle.home_journal.specs.Slots.{is_to_shut, open_slots, with_shut_gate}
-use Rattle.home_journal.specs.declared.scans.Found.{Found}
-use Rattle.std.proofs.Common.{List, [], ap, append_assoc, arith, drop, false, inl, inr, length, length-append, length-drop, subst, sym, take, take-append-drop, true, ℕ, ◌*◌, ◌++◌, ◌+◌, ◌-◌, ◌<◌, ◌≡◌, ◌≢◌, ◌≤◌, ◌∙◌, ◌∷◌, ◌⊎◌}
-use Rattle.std.proofs.lemmas.Bool.Decides.{nat_tests}
-use Rattle.std.proofs.lemmas.List.{append-nil, take_at}
-use Rattle.std.specs.Prelude.{Some, nat_lt, slice_get, ◌==◌}
+use Rattle.home_journal.proofs.Prelude.{AreSlots, Found, Holds, IsFound, IsSettled, LeavesThis, List, Some, Torn, [], ap, append-nil, append_assoc, arith, drop, false, inl, inr, is_to_shut, length, length-append, length-drop, nat_lt, nat_tests, open_slots, slice_get, slots_of, subst, sym, take, take-append-drop, take_at, true, with_shut_gate, ℕ, ◌*◌, ◌++◌, ◌+◌, ◌-◌, ◌<◌, ◌==◌, ◌∙◌, ◌∷◌, ◌≡◌, ◌≢◌, ◌≤◌, ◌⊎◌}
 
 not_one : (gate : ℕ) → gate ≢ 1 → (gate == 1) ≡ false
 not_one gate shut = grind (arith, nat_tests, shut)

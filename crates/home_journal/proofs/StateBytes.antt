@@ -1,22 +1,5 @@
 -- The states that slots tell: the bytes of a state are read as it, and so are one more and the first that is not good.
-use Rattle.home_journal.specs.Journals.{IsStateOf, last_kept_home}
-use Rattle.home_journal.specs.KeptStates.{states_from, with_first}
-use Rattle.home_journal.specs.Slots.{body_size, slot_state, stand_bytes, stands_of, state_bytes}
-use Rattle.home_types.specs.HomeStates.{stand_at}
-use Rattle.home_types.specs.Kinds.{has_value, kind_at}
-use Rattle.home_types.specs.declared.kinds.Kind.TheVariants.{States}
-use Rattle.home_types.specs.declared.kinds.Kind.{Kind}
-use Rattle.home_types.specs.declared.worlds.Stand.{Stand}
-use Rattle.std.proofs.Common.{All, Bool, List, None, Option, Some, [], ap, append_assoc, arith, drop, false, get_or, inl, inr, length, length-append, refl, suc, sym, take, true, true≢false, w16, w32, ℕ, ◌*◌, ◌++◌, ◌+◌, ◌-◌, ◌<◌, ◌^◌, ◌≡◌, ◌≤◌, ◌∙◌, ◌∷◌, ◌⊎◌}
-use Rattle.std.proofs.lemmas.Bool.Decides.{nat_tests}
-use Rattle.std.proofs.lemmas.Grind.{common_steps}
-use Rattle.std.proofs.lemmas.List.Elements.{All-more}
-use Rattle.std.proofs.lemmas.List.{append-nil, drop_all, drop_more, flat_map_more, take_all, take_more, take_more_set}
-use Rattle.std.proofs.lemmas.Nat.{from_le_bytes-to_le_bytes_2, from_le_bytes-to_le_bytes_4}
-use Rattle.std.specs.Int.{from_le_bytes, to_le_bytes}
-use Rattle.std.specs.List.{flat_map}
-use Rattle.std.specs.Option.{option_map}
-use Rattle.std.specs.Prelude.{Err, Ok, Result, if◌then◌else◌, is_ok, nat_le, set, slice_get, ◌&&◌, ◌==◌}
+use Rattle.home_journal.proofs.Prelude.{All, All-more, Bool, Err, IsStateOf, Kind, List, None, Ok, Option, Result, Some, Stand, States, [], ap, append-nil, append_assoc, arith, body_size, common_steps, drop, drop_all, drop_more, false, flat_map, flat_map_more, from_le_bytes, from_le_bytes-to_le_bytes_2, from_le_bytes-to_le_bytes_4, get_or, has_value, if◌then◌else◌, inl, inr, is_ok, kind_at, last_kept_home, length, length-append, nat_le, nat_tests, option_map, refl, set, slice_get, slot_state, stand_at, stand_bytes, stands_of, state_bytes, states_from, suc, sym, take, take_all, take_more, take_more_set, to_le_bytes, true, true≢false, w16, w32, with_first, ℕ, ◌&&◌, ◌*◌, ◌++◌, ◌+◌, ◌-◌, ◌<◌, ◌==◌, ◌^◌, ◌∙◌, ◌∷◌, ◌≡◌, ◌≤◌, ◌⊎◌}
 
 pub if_both : {X : Type 0} (a b : Bool) (x y : X) → a ≡ true → b ≡ true → (if a && b then x else y) ≡ x
 if_both a b x y p q = grind (arith, common_steps)

@@ -1,8 +1,5 @@
 -- What the two writes of a slot make of the file.
-use Rattle.home_journal.specs.Disks.{Holds}
-use Rattle.home_journal.specs.Slots.{with_slot}
-use Rattle.std.proofs.Common.{List, [], ap, append_assoc, arith, drop, get_or, length, length-append, subst, sym, take, ℕ, ◌++◌, ◌+◌, ◌<◌, ◌≡◌, ◌∙◌, ◌∷◌}
-use Rattle.std.proofs.lemmas.List.{drop_at, length-take-le, take_at, take_more}
+use Rattle.home_journal.proofs.Prelude.{Holds, List, [], ap, append_assoc, arith, drop, drop_at, get_or, length, length-append, length-take-le, subst, sym, take, take_at, take_more, with_slot, ℕ, ◌++◌, ◌+◌, ◌<◌, ◌∙◌, ◌∷◌, ◌≡◌}
 
 module _ (at : ℕ) (body old mid new : List ℕ) (within : at < length old) where
   abbrev tail : List ℕ

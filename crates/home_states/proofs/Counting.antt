@@ -1,40 +1,12 @@
 -- How many calls a window hands out at most.
 use Rattle.device_gate.proofs.Cited.{none_out}
-use Rattle.device_gate.specs.Grips.{Gripped}
-use Rattle.device_gate.specs.declared.gates.Place.TheVariants.{Home, Out}
-use Rattle.device_gate.specs.declared.gates.Place.{Place}
-use Rattle.device_gate.specs.declared.grips.Done.{Done}
-use Rattle.device_gate.specs.declared.grips.Ready.{Ready}
-use Rattle.device_gate.specs.declared.slips.Slip.{Slip}
+use Rattle.home_states.proofs.Prelude.{Absent, Answers, Bool, CallAnswer, CallsAreFew, Carried, Choice, Configuration, Done, Entry, Gave, Go, Grip, Gripped, HandedDevice, HandsOut, Home, HomeState, HubState, IsBack, IsGiven, IsOpened, IsProbeGiven, IsProbed, IsTurn, List, MayOpen, Moved, Moves, None, Ok, OpenHub, Option, Out, Over, Place, Purpose, Ready, Returned, Setting, Shown, Slip, Some, Told, Turn, Wait, Waits, WindowTickets, after_choice, after_give, after_take_probe, ap, arith, at_moment, carried_in, choice_of, common_steps, configuration_of, decide_is, device_no, false, gave_back, gave_probe_back, give_entries, give_if, hub_state_of, if◌then◌else◌, inl, inr, is_device, is_kept, is_out, is_some, least_entries, length, length-map, length_with, max, may_probe, nat_lt, not, opened, option_map, probe_grip, read_of, refl, rules, same_carried, slice_get, slice_get_within, subst, suc, sum_below, sym, took_after, took_choice, took_probe, true, unwrap_or, with_entries, with_grip, zero, ℕ, ⊤, ◌&&◌, ◌*◌, ◌+◌, ◌-◌, ◌<◌, ◌==◌, ◌∙◌, ◌≡◌, ◌≢◌, ◌≤◌}
 use Rattle.device_gate.specs.declared.slips.Told.TheVariants.{Died, Sensed, Worked}
-use Rattle.device_gate.specs.declared.slips.Told.{Told}
-use Rattle.command_rules.specs.Rosters.{device_no}
-use Rattle.device_states.specs.Devices.{Shown}
-use Rattle.handed_devices.specs.declared.devices.HandedDevice.{HandedDevice}
 use Rattle.history_book.proofs.Cited.{put_other, put_same}
 use Rattle.history_book.specs.Readings.{Reading, put}
-use Rattle.history_book.specs.Settings.{Setting, is_device}
-use Rattle.history_book.specs.declared.entries.Entry.{Entry}
-use Rattle.home_states.specs.Tickets.{CallsAreFew, WindowTickets, least_entries, sum_below}
-use Rattle.hub_core.proofs.Cited.{decide_is, gave_back, gave_probe_back, length_with, took_after, took_choice, took_probe}
-use Rattle.hub_core.specs.HubCalls.{Answers, IsGiven, IsOpened, IsProbeGiven, IsProbed, IsTurn}
-use Rattle.hub_core.specs.Homes.{HomeState}
-use Rattle.hub_core.specs.HubSteps.{CallAnswer, Carried, Gave, HubState, Returned, give_if, is_kept, same_carried}
-use Rattle.hub_core.specs.OpenHubs.{OpenHub, carried_in, configuration_of, hub_state_of}
-use Rattle.hub_core.specs.Openings.{MayOpen}
-use Rattle.hub_core.specs.Steps.{Absent as IsAbsent, Choice, HandsOut, Moves, Over as IsOver, Waits, after_choice, after_give, after_take_probe, at_moment, choice_of, give_entries, may_probe, probe_grip, opened, with_entries, with_grip}
-use Rattle.hub_core.specs.declared.turns.Turn.TheVariants.{Absent, Go, Moved, Over, Wait}
-use Rattle.hub_core.specs.declared.turns.Turn.{Turn}
-use Rattle.hub_table.specs.Tables.{IsBack}
-use Rattle.lock_leasing.specs.Configurations.{Configuration, Grip, is_out, read_of}
+use Rattle.hub_core.specs.Steps.{Absent as IsAbsent, Over as IsOver}
 use Rattle.lock_leasing.specs.declared.purposes.Purpose.TheVariants.{Commands, Probes, Undoes}
-use Rattle.lock_leasing.specs.declared.purposes.Purpose.{Purpose}
 use Rattle.window_devices.specs.KnownDevices.{progress_at}
-use Rattle.std.proofs.Common.{ap, arith, inl, inr, refl, rules, subst, sym, ◌∙◌}
-use Rattle.std.proofs.lemmas.Grind.{common_steps}
-use Rattle.std.proofs.lemmas.List.{length-map}
-use Rattle.std.proofs.lemmas.Option.{slice_get_within}
-use Rattle.std.specs.Prelude.{Bool, List, None, Ok, Option, Some, false, if◌then◌else◌, is_some, length, max, nat_lt, not, option_map, slice_get, suc, true, unwrap_or, zero, ℕ, ⊤, ◌&&◌, ◌*◌, ◌+◌, ◌-◌, ◌<◌, ◌==◌, ◌≡◌, ◌≢◌, ◌≤◌}
 
 -- Sums
 

@@ -1,24 +1,10 @@
 -- A window is begun, and a run is added to it, over the home as it is inside.
-use Rattle.day_clock.specs.declared.times.When.{When}
-use Rattle.handed_devices.specs.declared.devices.HandedDevice.{HandedDevice}
+use Rattle.home_states.proofs.Prelude.{Between, Err, HandedDevice, HasBegun, HasBegunAt, HasBegunWindow, HasJoinedBoth, HasRun, HasTakenRun, HomeState, IfErr, IfOk, InWindow, IsBetweenIn, List, LiveState, MayNotBeginAt, Moving, None, Ok, OpenHub, Option, Phase, Result, RunNo, Script, Some, When, ap, first_against_begin, inl, inr, refl, subst, sym, time_told, true, why_no_time, ℕ, ◌∙◌, ◌≡◌}
 use Rattle.home_states.specs.DraftRefusals.{MayNotBegin, first_against_beginning, first_against_time}
-use Rattle.home_states.specs.Drafts.{HasBegunWindow, time_told}
-use Rattle.home_states.specs.Joinings.{HasJoinedBoth, HasTakenRun}
-use Rattle.home_states.specs.LiveHomes.{IsBetweenIn, LiveState}
-use Rattle.home_states.specs.Rebuilt.{HasBegunAt, MayNotBeginAt, first_against_begin, why_no_time}
 use Rattle.home_states.specs.declared.homes.ClosedWindow.{ClosedWindow}
-use Rattle.home_states.specs.declared.homes.Phase.TheVariants.{Between, InWindow, Moving}
-use Rattle.home_states.specs.declared.homes.Phase.{Phase}
 use Rattle.home_states.specs.declared.refusals.NotBegun.TheVariants.{BadTime, InWindow as IsInWindow, NoMemory}
 use Rattle.home_states.specs.declared.refusals.NotBegun.{NotBegun}
-use Rattle.home_types.specs.declared.numbers.RunNo.{RunNo}
-use Rattle.hub_core.specs.Homes.{HomeState}
-use Rattle.hub_core.specs.OpenHubs.{OpenHub}
-use Rattle.live_scripts.specs.Growth.{HasBegun, HasRun}
 use Rattle.live_scripts.specs.Reasons.{IsRefusedFor}
-use Rattle.routine_reader.specs.declared.scripts.Script.{Script}
-use Rattle.std.proofs.Common.{ap, inl, inr, refl, subst, sym, ◌∙◌}
-use Rattle.std.specs.Prelude.{Err, IfErr, IfOk, List, None, Ok, Option, Result, Some, true, ℕ, ◌≡◌}
 
 pub has_begun : (inside s : LiveState) (home : HomeState HandedDevice) (at : When) (probes k : ℕ) (script : Script) (closed : Option ClosedWindow) → inside ≡ s → inside.phase ≡ Between home
     → HasBegun inside.script at probes k script → closed ≡ None → HasBegunAt s at probes k (record inside { script = script; is_draft = true; closed = closed })

@@ -1,21 +1,6 @@
 -- What the window says of a call that goes out, over the home as it is inside.
-use Rattle.device_gate.specs.Grips.{Gripped}
-use Rattle.device_gate.specs.declared.grips.Ready.{Ready}
-use Rattle.device_gate.specs.declared.slips.Slip.{Slip}
-use Rattle.handed_devices.specs.declared.devices.HandedDevice.{HandedDevice}
-use Rattle.home_states.specs.LiveHomes.{LiveState, hub_in, hub_of}
-use Rattle.home_states.specs.Rebuilt.{ProbesInOrder, StepsInOrder, sends_no_probe}
-use Rattle.home_states.specs.Tickets.{numbered_call, numbered_turn}
-use Rattle.home_states.specs.declared.homes.Phase.TheVariants.{InWindow}
-use Rattle.hub_core.proofs.Cited.{took_none}
-use Rattle.hub_core.specs.HubCalls.{IsProbed}
-use Rattle.hub_core.specs.OpenHubs.{OpenHub, configuration_of, hub_state_of}
-use Rattle.hub_core.specs.Steps.{may_probe}
-use Rattle.hub_table.specs.Tables.{SlipAndTask, StoodInOrder, TookInOrder, lent_by}
+use Rattle.home_states.proofs.Prelude.{Gripped, HandedDevice, IfSome, InWindow, IsProbed, LiveState, None, OpenHub, Option, ProbesInOrder, Ready, Slip, SlipAndTask, Some, StepsInOrder, StoodInOrder, Taken, TookInOrder, ap, configuration_of, false, hub_in, hub_of, hub_state_of, lent_by, may_probe, not, numbered_call, numbered_turn, sends_no_probe, subst, sym, took_none, true, ℕ, ◌∙◌, ◌≡◌}
 use Rattle.hub_table.specs.declared.told.Taken.TheVariants.{Absent, Moved, Out, Over, Waits}
-use Rattle.hub_table.specs.declared.told.Taken.{Taken}
-use Rattle.std.proofs.Common.{ap, subst, sym, ◌∙◌}
-use Rattle.std.specs.Prelude.{IfSome, None, Option, Some, false, not, true, ℕ, ◌≡◌}
 
 pub window_is : (inside s : LiveState) (k : ℕ) (hub : OpenHub HandedDevice) → inside ≡ s → inside.phase ≡ InWindow k hub → Some hub ≡ hub_in s
 window_is inside s k hub seen was = sym (ap (λ p. hub_of p) was) ∙ ap (λ (x : LiveState). hub_in x) seen

@@ -1,41 +1,18 @@
 -- A run joins the window in which a live home is.
-use Rattle.command_rules.specs.Rosters.{Run}
-use Rattle.device_states.specs.Devices.{Shown}
-use Rattle.handed_devices.specs.declared.devices.HandedDevice.{HandedDevice}
-use Rattle.history_book.specs.Settings.{Setting}
-use Rattle.home_states.specs.Joinings.{HasJoinedBoth}
-use Rattle.home_states.specs.LiveHomes.{FitsScript, IsCounted, IsLive, IsWindowOf, LiveState}
-use Rattle.home_states.specs.Tickets.{TicketsAreLow, WindowTickets, tickets_in}
-use Rattle.home_states.specs.declared.homes.Phase.TheVariants.{InWindow}
+use Rattle.home_states.proofs.Prelude.{All, Configuration, Err, FitsScript, HandedDevice, HasJoinedBoth, HasRun, HomeState, IfErr, IfOk, IfSome, InWindow, IsCounted, IsLive, IsOpened, IsWindowOf, List, LiveState, Mode, None, Ok, OpenHub, Option, Result, Run, RunNo, Script, Setting, Shown, Some, TicketsAreLow, WindowTickets, [], and_from, ap, arith, false, get_or_from_slice_get, kinds_of, length, length-map, lt-ltb, map, names_values_of, nat_lt, new_run, option_map, plain_device, plain_routine, plain_script, refl, routine_commands, run_of_text, script_runs, slice_get, slice_get-map, slice_get_within, subst, sym, tickets_in, true, unwrap_or, ℕ, ◌++◌, ◌+◌, ◌<◌, ◌∙◌, ◌∷◌, ◌≡◌, ◌≤◌}
 use Rattle.home_states.specs.declared.refusals.NotBegun.{NotBegun}
 use Rattle.home_types.specs.Kinds.{kind_at}
 use Rattle.home_types.specs.declared.commands.Command.{Command}
 use Rattle.home_types.specs.declared.commands.Job.TheVariants.{Check, Load, Set, Store}
 use Rattle.home_types.specs.declared.commands.Job.{Job}
 use Rattle.home_types.specs.declared.kinds.Kind.{Kind}
-use Rattle.home_types.specs.declared.modes.Mode.{Mode}
-use Rattle.home_types.specs.declared.numbers.RunNo.{RunNo}
-use Rattle.hub_core.specs.HubCalls.{IsOpened}
-use Rattle.hub_core.specs.Homes.{HomeState}
 use Rattle.hub_core.specs.Joins.{MayJoin, joined}
-use Rattle.hub_core.specs.OpenHubs.{OpenHub}
-use Rattle.hub_core.specs.Openings.{names_values_of}
 use Rattle.live_scripts.proofs.Cited.{MayTake, kinds_grown, number_grown, runs_grown, windows_grown}
-use Rattle.live_scripts.specs.Growth.{HasRun, new_run}
-use Rattle.lock_leasing.specs.Configurations.{Configuration}
-use Rattle.routine_reader.specs.Rosters.{kinds_of, routine_commands, run_of_text, script_runs}
-use Rattle.routine_reader.specs.Scripts.{plain_device, plain_routine, plain_script}
 use Rattle.routine_reader.specs.Sound.{IsSound, IsSoundCommand, IsSoundRoutine, device_kinds, suits_device}
 use Rattle.routine_reader.specs.declared.scripts.DeviceText.{DeviceText}
 use Rattle.routine_reader.specs.declared.scripts.RoutineText.{RoutineText}
-use Rattle.routine_reader.specs.declared.scripts.Script.{Script}
-use Rattle.std.proofs.Common.{ap, arith, refl, subst, sym, ◌∙◌}
-use Rattle.std.proofs.lemmas.Bool.{and_from, lt-ltb}
 use Rattle.std.proofs.lemmas.List.Elements.{All-get_or}
-use Rattle.std.proofs.lemmas.List.{length-map}
-use Rattle.std.proofs.lemmas.Option.{get_or_from_slice_get, slice_get-map, slice_get_within}
 use Rattle.std.specs.Result.{is_err}
-use Rattle.std.specs.Prelude.{All, Err, IfErr, IfOk, IfSome, List, None, Ok, Option, Result, Some, [], false, length, map, nat_lt, option_map, slice_get, true, unwrap_or, ℕ, ◌++◌, ◌+◌, ◌<◌, ◌∷◌, ◌≡◌, ◌≤◌}
 
 -- The window that is open is the script's
 

@@ -5,6 +5,7 @@ mod InOrder
 mod Joining
 mod Living
 mod Numbering
+mod Prelude
 mod Refusing
 mod Remaking
 mod SameAnswers

@@ -1,8 +1,5 @@
 -- What a live home is never in.
-use Rattle.home_states.specs.LiveHomes.{FitsScript, IsLive, LiveState}
-use Rattle.home_states.specs.declared.homes.Phase.TheVariants.{Moving}
-use Rattle.std.proofs.Common.{subst}
-use Rattle.std.specs.Prelude.{◌≡◌}
+use Rattle.home_states.proofs.Prelude.{FitsScript, IsLive, LiveState, Moving, subst, ◌≡◌}
 
 -- no live home is left between the two
 pub never_moving : (s : LiveState) → IsLive s → s.phase ≡ Moving → ⊥

@@ -1,32 +1,6 @@
 -- The numbers of device calls go on from step to step.
-use Rattle.device_gate.specs.Grips.{Gripped}
-use Rattle.device_gate.specs.declared.gates.Place.TheVariants.{Home, Out}
-use Rattle.device_gate.specs.declared.gates.Place.{Place}
-use Rattle.device_gate.specs.declared.grips.Done.{Done}
-use Rattle.device_gate.specs.declared.grips.Ready.{Ready}
-use Rattle.device_gate.specs.declared.slips.Slip.{Slip}
-use Rattle.device_gate.specs.declared.slips.Task.{Task}
-use Rattle.device_gate.specs.declared.slips.Told.{Told}
-use Rattle.handed_devices.specs.declared.devices.HandedDevice.{HandedDevice}
-use Rattle.history_book.specs.declared.entries.Entry.{Entry}
+use Rattle.home_states.proofs.Prelude.{Absent, Between, CallsAreFew, Done, Entry, FitsScript, Go, Gripped, HandedDevice, HasComeBack, Home, HomeState, IfSome, InWindow, IsBack, IsCounted, IsLive, IsOpenedOn, IsProbed, IsTurn, IsWindowOf, List, LiveState, Moved, None, OpenHub, Option, Out, Over, Place, Ready, SameWindow, Setting, Slip, SlipAndTask, Some, Taken, Task, TicketsAreGiven, TicketsAreLow, Told, Turn, Wait, WindowTickets, [], ap, arith, call_told, configuration_of, count_after, false, inl, inr, length, length-set, lent_by, number_in, slice_get, slice_get_within, slice_set, subst, suc, sym, taken_of, tickets_given, tickets_in, zero, ℕ, ◌*◌, ◌+◌, ◌<◌, ◌^◌, ◌∙◌, ◌∷◌, ◌≡◌, ◌≤◌, ◌⊎◌}
 use Rattle.home_states.proofs.Counting.{back_counted, probe_counted, turn_counted}
-use Rattle.home_states.specs.LiveHomes.{FitsScript, IsCounted, IsLive, IsWindowOf, LiveState, number_in, tickets_given}
-use Rattle.home_states.specs.Openings.{IsOpenedOn}
-use Rattle.home_states.specs.Tickets.{CallsAreFew, TicketsAreGiven, TicketsAreLow, WindowTickets, call_told, count_after, tickets_in}
-use Rattle.home_states.specs.declared.homes.Phase.TheVariants.{Between, InWindow}
-use Rattle.history_book.specs.Settings.{Setting}
-use Rattle.hub_core.specs.Homes.{HomeState}
-use Rattle.hub_core.specs.HubCalls.{IsProbed, IsTurn, SameWindow}
-use Rattle.hub_core.specs.OpenHubs.{OpenHub, configuration_of}
-use Rattle.hub_core.specs.declared.turns.Turn.TheVariants.{Absent, Go, Moved, Over, Wait}
-use Rattle.hub_core.specs.declared.turns.Turn.{Turn}
-use Rattle.hub_table.specs.Answers.{HasComeBack}
-use Rattle.hub_table.specs.Tables.{IsBack, SlipAndTask, lent_by, taken_of}
-use Rattle.hub_table.specs.declared.told.Taken.{Taken}
-use Rattle.std.proofs.Common.{ap, arith, inl, inr, subst, sym, ◌∙◌}
-use Rattle.std.proofs.lemmas.List.{length-set}
-use Rattle.std.proofs.lemmas.Option.{slice_get_within}
-use Rattle.std.specs.Prelude.{IfSome, List, None, Option, Some, [], false, length, slice_get, slice_set, suc, zero, ℕ, ◌*◌, ◌+◌, ◌<◌, ◌^◌, ◌∷◌, ◌≡◌, ◌≤◌, ◌⊎◌}
 
 -- Tickets of the calls that are out
 

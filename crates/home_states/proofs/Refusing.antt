@@ -1,18 +1,9 @@
 -- Why a call is refused, by what the text, the script or the home says.
 use Rattle.day_clock.specs.Times.{time_of}
-use Rattle.day_clock.specs.declared.times.When.{When}
-use Rattle.handed_devices.specs.declared.devices.HandedDevice.{HandedDevice}
-use Rattle.home_states.specs.Drafts.{time_told}
-use Rattle.home_states.specs.Openings.{first_against_home}
+use Rattle.home_states.proofs.Prelude.{Bool, HandedDevice, HomeState, IsUtf8, List, None, Option, Script, Some, When, WindowText, ap, false, first_against_home, if◌then◌else◌, length, nat_le, refl, rules, slice_get, slice_get_within, sym, time_told, true, ℕ, ◌<◌, ◌^◌, ◌∙◌, ◌≡◌}
 use Rattle.home_states.specs.declared.refusals.NotOpened.TheVariants.{Absent, TooMany}
 use Rattle.home_states.specs.declared.refusals.NotOpened.{NotOpened}
-use Rattle.hub_core.specs.Homes.{HomeState}
-use Rattle.routine_reader.specs.declared.scripts.Script.{Script}
-use Rattle.routine_reader.specs.declared.scripts.WindowText.{WindowText}
-use Rattle.std.proofs.Common.{ap, refl, rules, sym, ◌∙◌}
-use Rattle.std.proofs.lemmas.Option.{slice_get_within}
 use Rattle.std.proofs.lemmas.Str.{IsUtf8-from_is_utf8, is_utf8-from_IsUtf8}
-use Rattle.std.specs.Prelude.{Bool, IsUtf8, List, None, Option, Some, false, if◌then◌else◌, length, nat_le, slice_get, true, ℕ, ◌<◌, ◌^◌, ◌≡◌}
 use Rattle.std.specs.Str.{is_utf8}
 
 -- Times

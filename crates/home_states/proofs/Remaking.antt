@@ -1,9 +1,6 @@
 -- Calls that are made one after another, and the one that is refused.
-use Rattle.home_states.specs.LiveHomes.{LiveState}
-use Rattle.home_states.specs.Rebuilt.{AreRefusedAt, WasMade, WereMade, is_refused}
+use Rattle.home_states.proofs.Prelude.{AreRefusedAt, List, LiveState, Some, WasMade, WereMade, [], ap, append-nil, append_assoc, arith, is_refused, length, length-append, refl, slice_get, subst, sym, take, true, ℕ, ◌*◌, ◌++◌, ◌+◌, ◌/◌, ◌∙◌, ◌∷◌, ◌≡◌}
 use Rattle.logged_calls.specs.declared.calls.Logged.{Logged}
-use Rattle.std.proofs.Common.{ap, append-nil, append_assoc, arith, length-append, refl, subst, sym, ◌∙◌}
-use Rattle.std.specs.Prelude.{List, Some, [], length, slice_get, take, true, ℕ, ◌*◌, ◌++◌, ◌+◌, ◌/◌, ◌≡◌, ◌∷◌}
 
 pub one_more : (calls : List Logged) (call : Logged) (s t u : LiveState) → WereMade s calls t → WasMade t call u → WereMade s (calls ++ call ∷ []) u
 one_more [] call s t u made was = (u, subst (λ x. WasMade x call u) made was, refl)

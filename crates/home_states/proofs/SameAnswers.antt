@@ -1,33 +1,9 @@
 -- Devices that come back to two windows that are the same for all who call them, and probes of them.
 use Rattle.device_gate.specs.Calls.{is_counted_up}
-use Rattle.device_gate.specs.Grips.{Gripped}
-use Rattle.device_gate.specs.declared.gates.Place.TheVariants.{Home, Out}
-use Rattle.device_gate.specs.declared.gates.Place.{Place}
-use Rattle.device_gate.specs.declared.grips.Done.{Done}
-use Rattle.device_gate.specs.declared.grips.Ready.{Ready}
-use Rattle.device_gate.specs.declared.slips.Slip.{Slip}
-use Rattle.device_gate.specs.declared.slips.Task.{Task}
-use Rattle.device_gate.specs.declared.slips.Told.{Told}
-use Rattle.handed_devices.specs.declared.devices.HandedDevice.{HandedDevice}
-use Rattle.history_book.specs.declared.entries.Entry.{Entry}
+use Rattle.home_states.proofs.Prelude.{Bool, Carried, Configuration, Done, Entry, Gave, Grip, Gripped, HandedDevice, HasComeBack, Home, HubState, IsGiven, IsProbeGiven, IsProbed, IsTrue, List, None, Ok, OpenHub, Option, Out, OutAs, Place, ProbeTaken, Probed, Purpose, Ready, Returned, SameWindowOf, Slip, Some, StoodInOrder, Task, Told, after_give, after_take_probe, ap, ap₂, arith, at_moment, carried_by, carried_in, carrying, common_steps, configuration_of, eqb-true, false, gave_back, gave_probe_back, give_if, hub_state_of, if◌then◌else◌, inl, inr, is_kept, max, may_probe, nat_lt, option_map, out_as, out_in, point_of, probe_grip, refl, same_carried, slice_get, slice_get_within, subst, sym, task_of, took_probe, true, unwrap_or, ℕ, ◌&&◌, ◌+◌, ◌-◌, ◌==◌, ◌∙◌, ◌≡◌, ◌≤◌}
 use Rattle.history_book.specs.Readings.{put}
 use Rattle.home_states.proofs.SameSteps.{later_same, outs_by, outs_of, outs_same, set_out, stood_as}
-use Rattle.home_states.specs.SameHomes.{OutAs, SameWindowOf, out_as, out_in}
-use Rattle.hub_core.proofs.Cited.{gave_back, gave_probe_back, took_probe}
-use Rattle.hub_core.specs.HubCalls.{IsGiven, IsProbeGiven, IsProbed, carried_by}
-use Rattle.hub_core.specs.HubSteps.{Carried, Gave, HubState, ProbeTaken, Probed, Returned, carrying, give_if, is_kept, same_carried, task_of}
-use Rattle.hub_core.specs.OpenHubs.{OpenHub, carried_in, configuration_of, hub_state_of}
-use Rattle.hub_core.specs.Steps.{after_give, after_take_probe, at_moment, may_probe, probe_grip}
-use Rattle.hub_table.specs.Answers.{HasComeBack}
-use Rattle.hub_table.specs.Tables.{StoodInOrder}
-use Rattle.lock_leasing.specs.Configurations.{Configuration, Grip, point_of}
 use Rattle.lock_leasing.specs.Words.{standing_value}
-use Rattle.lock_leasing.specs.declared.purposes.Purpose.{Purpose}
-use Rattle.std.proofs.Common.{ap, ap₂, arith, inl, inr, refl, subst, sym, ◌∙◌}
-use Rattle.std.proofs.lemmas.Grind.{common_steps}
-use Rattle.std.proofs.lemmas.Bool.{eqb-true}
-use Rattle.std.proofs.lemmas.Option.{slice_get_within}
-use Rattle.std.specs.Prelude.{max, Bool, IsTrue, List, None, Ok, Option, Some, false, if◌then◌else◌, nat_lt, option_map, slice_get, true, unwrap_or, ℕ, ◌&&◌, ◌+◌, ◌-◌, ◌==◌, ◌≡◌, ◌≤◌}
 use Rattle.window_devices.specs.KnownDevices.{grip_in, progress_at}
 
 -- The configuration to which the device has come back: of the detector's grip the moment stays

@@ -1,26 +1,11 @@
 -- Windows that are opened on homes that are the same for all who call them, and closed.
 use Rattle.device_gate.specs.Places.{all_home}
-use Rattle.handed_devices.specs.declared.devices.HandedDevice.{HandedDevice}
+use Rattle.home_states.proofs.Prelude.{Bool, Configuration, HandedDevice, HomeState, IsOpenedOn, List, Mode, None, OpenHub, SameBetween, SameWindowOf, Script, Setting, Stand, WindowIsClosed, [], ap, ap₂, at_moment, ext_get_or, false, handed_shows, is_weak, length, live_setting_on, opened, out_in, plain_script, refl, slice_get, subst, suc, sym, true, zero, ℕ, ◌+◌, ◌<◌, ◌∙◌, ◌∷◌, ◌≡◌}
 use Rattle.history_book.specs.Histories.{entries_of, executed, line_of, reading}
-use Rattle.history_book.specs.Settings.{Setting, is_weak}
 use Rattle.history_book.specs.declared.records.WindowRecord.{WindowRecord}
 use Rattle.home_states.proofs.SameScripts.{same_probes, same_runs}
-use Rattle.home_states.specs.Openings.{IsOpenedOn, handed_shows, live_setting_on}
-use Rattle.home_states.specs.SameHomes.{SameBetween, SameWindowOf, out_in}
-use Rattle.home_types.specs.declared.modes.Mode.{Mode}
-use Rattle.hub_core.specs.HubCalls.{WindowIsClosed}
-use Rattle.hub_core.specs.Homes.{HomeState}
-use Rattle.hub_core.specs.OpenHubs.{OpenHub}
-use Rattle.hub_core.specs.Steps.{at_moment, opened}
-use Rattle.lock_leasing.specs.Configurations.{Configuration}
-use Rattle.routine_reader.specs.Scripts.{plain_script}
-use Rattle.routine_reader.specs.declared.scripts.Script.{Script}
 use Rattle.home_types.specs.HomeStates.{nowhere, stand_at}
-use Rattle.home_types.specs.declared.worlds.Stand.{Stand}
 use Rattle.legal_days.specs.LegalWindows.{IsLegalWindow, IsSeriallyLegal, IsWeaklyLegal}
-use Rattle.std.proofs.Common.{ap, ap₂, refl, subst, sym, ◌∙◌}
-use Rattle.std.proofs.lemmas.List.{ext_get_or}
-use Rattle.std.specs.Prelude.{Bool, List, None, [], false, length, slice_get, suc, true, zero, ℕ, ◌+◌, ◌<◌, ◌∷◌, ◌≡◌}
 
 same_stands : (xs ys : List Stand) → length xs ≡ length ys → ((d : ℕ) → d < length xs → stand_at xs d ≡ stand_at ys d) → xs ≡ ys
 same_stands xs ys long each = ext_get_or nowhere xs ys long each

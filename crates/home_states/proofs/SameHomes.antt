@@ -1,46 +1,13 @@
 -- The calls that are made on homes that are the same for all who call them.
-use Rattle.command_rules.specs.Rosters.{Run}
+use Rattle.home_states.proofs.Prelude.{Absent, AreFrom, BeginsAs, Between, Configuration, DidNothing, Entry, FitsScript, Go, Gripped, HandedDevice, HasAddedRun, HasAnswered, HasBegunAt, HasClosed, HasJoined, HasLost, HasOpened, HasRestood, HasSentProbe, HasStepped, HasTakenRun, HasWaited, HomeState, IfSome, InWindow, IsBetweenIn, IsFrom, IsLive, IsProbed, IsRebuilt, IsTurn, List, LiveState, Mode, Moved, Moving, None, OpenHub, Option, Over, Phase, Ready, Run, RunNo, SameBetween, SameFrom, SameHome, SamePhase, SameWindowOf, SlipAndTask, Some, Stand, StepsInOrder, StoodInOrder, Taken, Told, TookInOrder, Turn, Wait, WasMade, WereMade, When, [], ap, ap₂, arith, at_moment, closed_as, configuration_of, false, hub_of, inl, inr, kinds_of, lent_by, max, new_run, numbered, numbered_call, numbered_turn, option_map, plain_script, refl, run_of_text, slice_set, subst, subst₂, sym, taken_of, true, ℕ, ◌+◌, ◌∙◌, ◌∷◌, ◌≡◌, ◌≤◌}
 use Rattle.hub_core.specs.Joins.{joined, joined_to}
-use Rattle.live_scripts.specs.Growth.{new_run}
-use Rattle.lock_leasing.specs.Configurations.{Configuration}
-use Rattle.day_clock.specs.declared.times.When.{When}
-use Rattle.device_gate.specs.Grips.{Gripped}
-use Rattle.device_gate.specs.declared.grips.Ready.{Ready}
-use Rattle.device_gate.specs.declared.slips.Told.{Told}
-use Rattle.handed_devices.specs.declared.devices.HandedDevice.{HandedDevice}
-use Rattle.history_book.specs.declared.entries.Entry.{Entry}
 use Rattle.home_states.proofs.SameAnswers.{same_back, same_probe}
 use Rattle.home_states.proofs.SameClosings.{same_closed, same_opened}
 use Rattle.home_states.proofs.SameScripts.{same_added, same_begun, same_kinds, same_run, same_start, some_same}
 use Rattle.home_states.proofs.SameSteps.{later_same, same_turn}
-use Rattle.home_states.specs.Drafts.{HasAddedRun, HasLost, HasRestood}
-use Rattle.home_states.specs.Joinings.{HasJoined, HasTakenRun}
-use Rattle.home_states.specs.LiveHomes.{BeginsAs, FitsScript, IsBetweenIn, IsLive, LiveState, hub_of}
-use Rattle.home_states.specs.Openings.{HasClosed, HasOpened}
-use Rattle.home_states.specs.Rebuilt.{HasBegunAt, HasSentProbe, AreFrom, DidNothing, HasStepped, HasWaited, IsFrom, IsRebuilt, StepsInOrder, WasMade, WereMade}
-use Rattle.home_states.specs.SameHomes.{SameBetween, SameFrom, SameHome, SamePhase, SameWindowOf, closed_as}
-use Rattle.home_states.specs.Steps.{HasAnswered}
-use Rattle.home_states.specs.Tickets.{numbered, numbered_call, numbered_turn}
-use Rattle.home_states.specs.declared.homes.Phase.TheVariants.{Between, InWindow, Moving}
-use Rattle.home_states.specs.declared.homes.Phase.{Phase}
 use Rattle.home_types.specs.HomeStates.{with_up}
-use Rattle.home_types.specs.declared.modes.Mode.{Mode}
-use Rattle.home_types.specs.declared.numbers.RunNo.{RunNo}
-use Rattle.home_types.specs.declared.worlds.Stand.{Stand}
-use Rattle.hub_core.specs.Homes.{HomeState}
-use Rattle.hub_core.specs.HubCalls.{IsProbed, IsTurn}
-use Rattle.hub_core.specs.OpenHubs.{OpenHub, configuration_of}
-use Rattle.hub_core.specs.Steps.{at_moment}
-use Rattle.hub_core.specs.declared.turns.Turn.TheVariants.{Absent, Go, Moved, Over, Wait}
-use Rattle.hub_core.specs.declared.turns.Turn.{Turn}
-use Rattle.hub_table.specs.Tables.{SlipAndTask, StoodInOrder, TookInOrder, lent_by, taken_of}
-use Rattle.hub_table.specs.declared.told.Taken.{Taken}
 use Rattle.logged_calls.specs.declared.calls.Logged.TheVariants.{Added, Began, Closed, Gave, Lost, Opened, Probed, Restood, Took}
 use Rattle.logged_calls.specs.declared.calls.Logged.{Logged}
-use Rattle.routine_reader.specs.Rosters.{kinds_of, run_of_text}
-use Rattle.routine_reader.specs.Scripts.{plain_script}
-use Rattle.std.proofs.Common.{ap, ap₂, arith, inl, inr, refl, subst, subst₂, sym, ◌∙◌}
-use Rattle.std.specs.Prelude.{IfSome, List, None, Option, Some, [], false, max, option_map, slice_set, true, ℕ, ◌+◌, ◌∷◌, ◌≡◌, ◌≤◌}
 
 both_are : (from : ℕ) (s t u v : LiveState) → u ≡ s → v ≡ t → SameFrom from s t → SameFrom from u v
 both_are from s t u v is same home = subst₂ (λ x y. SameFrom from x y) (sym is) (sym same) home

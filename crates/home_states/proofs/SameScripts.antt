@@ -1,23 +1,11 @@
 -- What scripts of the same plain content say is the same.
-use Rattle.command_rules.specs.Rosters.{Run}
+use Rattle.home_states.proofs.Prelude.{Bool, HasBegun, HasRun, List, None, Option, PlainDevice, PlainRoutine, PlainScript, PlainWindow, Run, RunNo, Script, Some, Stand, When, WindowText, [], ap, ap₂, false, if◌then◌else◌, kinds_of, length, map, nat_lt, option_map, plain_device, plain_routine, plain_script, plain_window, refl, reverse, reverse-append, routine_commands, run_of_text, script_runs, slice_get, slice_get-map, start_home, suc, sym, true, unwrap_or, windows_before, ℕ, ◌++◌, ◌∙◌, ◌∷◌, ◌≡◌}
 use Rattle.home_types.specs.declared.commands.Command.{Command}
-use Rattle.home_types.specs.declared.worlds.Stand.{Stand}
-use Rattle.live_scripts.specs.Growth.{HasBegun, HasRun, windows_before}
-use Rattle.day_clock.specs.declared.times.When.{When}
-use Rattle.home_types.specs.declared.numbers.RunNo.{RunNo}
 use Rattle.home_types.specs.Limits.{most_windows}
-use Rattle.routine_reader.specs.Rosters.{kinds_of, routine_commands, run_of_text, script_runs, start_home}
-use Rattle.routine_reader.specs.Scripts.{PlainDevice, PlainRoutine, PlainScript, PlainWindow, plain_device, plain_routine, plain_script, plain_window}
 use Rattle.routine_reader.specs.declared.scripts.RunText.{RunText}
 use Rattle.routine_reader.specs.declared.scripts.DeviceText.{DeviceText}
 use Rattle.routine_reader.specs.declared.scripts.RoutineText.{RoutineText}
-use Rattle.routine_reader.specs.declared.scripts.Script.{Script}
-use Rattle.routine_reader.specs.declared.scripts.WindowText.{WindowText}
 use Rattle.home_types.specs.Listed.{Listed}
-use Rattle.std.proofs.Common.{ap, ap₂, refl, reverse, sym, ◌∙◌}
-use Rattle.std.proofs.lemmas.List.{reverse-append}
-use Rattle.std.proofs.lemmas.Option.{slice_get-map}
-use Rattle.std.specs.Prelude.{Bool, List, None, Option, Some, [], false, if◌then◌else◌, length, map, nat_lt, option_map, slice_get, suc, true, unwrap_or, ℕ, ◌++◌, ◌∷◌, ◌≡◌}
 
 map_map : {A B C : Type 0} (f : A → B) (g : B → C) (xs : List A) → map g (map f xs) ≡ map (λ x. g (f x)) xs
 map_map f g [] = refl

@@ -1,29 +1,9 @@
 -- The steps of two windows that are the same for all who call them.
 use Rattle.device_gate.specs.Calls.{is_counted_up}
-use Rattle.device_gate.specs.Grips.{Gripped}
-use Rattle.device_gate.specs.declared.gates.Place.TheVariants.{Home, Out}
-use Rattle.device_gate.specs.declared.gates.Place.{Place}
-use Rattle.device_gate.specs.declared.grips.Ready.{Ready}
-use Rattle.device_gate.specs.declared.slips.Slip.{Slip}
-use Rattle.device_gate.specs.declared.slips.Task.{Task}
-use Rattle.handed_devices.specs.declared.devices.HandedDevice.{HandedDevice}
-use Rattle.home_states.specs.SameHomes.{OutAs, SameWindowOf, out_as, out_in}
+use Rattle.home_states.proofs.Prelude.{Absent, Answers, Bool, Choice, Configuration, DeviceGoesOut, Go, Gripped, HandedDevice, HandsOut, Home, IsSlipOf, IsTrue, IsTurn, List, Moved, Moves, None, OpenHub, Option, Out, OutAs, Over, Place, Purpose, Ready, SameWindowOf, Slip, SlipFits, Some, StoodInOrder, Task, TookInOrder, Turn, Wait, Waits, after_choice, after_take, ap, ap₂, arith, at_moment, choice_of, configuration_of, decide, eq-eqb, eqb-true, false, hub_state_of, if◌then◌else◌, inl, inr, length, max, out_as, out_in, point_of, refl, slice_get, slice_get_within, slice_set, subst, sym, taken_of, task_of, took_after, took_choice, true, ℕ, ◌+◌, ◌<◌, ◌==◌, ◌∙◌, ◌≡◌, ◌≤◌}
 use Rattle.home_types.specs.Numbers.{Moment, RunId}
-use Rattle.hub_core.proofs.Cited.{took_after, took_choice}
-use Rattle.hub_core.specs.HubCalls.{Answers, DeviceGoesOut, IsTurn}
-use Rattle.hub_core.specs.HubSteps.{IsSlipOf, SlipFits, task_of}
-use Rattle.hub_core.specs.OpenHubs.{OpenHub, configuration_of, hub_state_of}
-use Rattle.hub_core.specs.Steps.{Absent as IsAbsent, Choice, HandsOut, Moves, Over as IsOver, Waits, after_choice, after_take, at_moment, choice_of, decide}
-use Rattle.hub_core.specs.declared.turns.Turn.TheVariants.{Absent, Go, Moved, Over, Wait}
-use Rattle.hub_core.specs.declared.turns.Turn.{Turn}
-use Rattle.hub_table.specs.Tables.{StoodInOrder, TookInOrder, taken_of}
-use Rattle.lock_leasing.specs.Configurations.{Configuration, point_of}
+use Rattle.hub_core.specs.Steps.{Absent as IsAbsent, Over as IsOver}
 use Rattle.lock_leasing.specs.Words.{standing_value}
-use Rattle.lock_leasing.specs.declared.purposes.Purpose.{Purpose}
-use Rattle.std.proofs.Common.{ap, ap₂, arith, inl, inr, refl, subst, sym, ◌∙◌}
-use Rattle.std.proofs.lemmas.Bool.{eq-eqb, eqb-true}
-use Rattle.std.proofs.lemmas.Option.{slice_get_within}
-use Rattle.std.specs.Prelude.{Bool, IsTrue, List, None, Option, Some, false, if◌then◌else◌, length, max, slice_get, slice_set, true, ℕ, ◌+◌, ◌<◌, ◌==◌, ◌≡◌, ◌≤◌}
 use Rattle.window_devices.proofs.Cited.{get_set}
 
 -- Of a step that hands out a device, what goes out is a function of the configuration, of how many

@@ -1,18 +1,7 @@
 -- Windows that are opened on a home however many it had.
-use Rattle.command_rules.specs.Rosters.{runs_of}
+use Rattle.home_states.proofs.Prelude.{HomeIsKept, HomeState, IsTrue, MayOpen, Mode, Script, Shown, Some, WindowText, arith, is_mode, kinds_of, may_open, plain_script, runs_of, script_runs, setting_for, slice_get, ℕ, ◌<◌, ◌^◌, ◌≡◌}
 use Rattle.command_rules.specs.declared.rosters.Roster.{Roster}
-use Rattle.device_states.specs.Devices.{Shown}
-use Rattle.home_types.specs.declared.modes.Mode.{Mode}
-use Rattle.hub_core.proofs.Cited.{may_open}
-use Rattle.hub_core.specs.Homes.{HomeIsKept, HomeState, setting_for}
-use Rattle.hub_core.specs.Openings.{MayOpen, is_mode}
-use Rattle.routine_reader.specs.Rosters.{kinds_of, script_runs}
-use Rattle.routine_reader.specs.Scripts.{plain_script}
 use Rattle.routine_reader.specs.Sound.{IsSound}
-use Rattle.routine_reader.specs.declared.scripts.Script.{Script}
-use Rattle.routine_reader.specs.declared.scripts.WindowText.{WindowText}
-use Rattle.std.proofs.Common.{arith}
-use Rattle.std.specs.Prelude.{IsTrue, Some, slice_get, ℕ, ◌<◌, ◌^◌, ◌≡◌}
 
 -- what a device would show that was never called
 abbrev uncalled : {D : Type 0} → (D → Shown) → D → Shown

@@ -2,17 +2,13 @@
 use Rattle.command_words.proofs.Cited.{line_is_paired}
 use Rattle.command_words.specs.CommandLines.{command_line_of}
 use Rattle.command_words.specs.OptionWords.{goes_with}
-use Rattle.command_words.specs.declared.command_lines.CommandLine.TheVariants.{Check, Keep, Replay, Run, Trial, Watch}
+use Rattle.hub_commands.proofs.Prelude.{IsTrue, Keep, List, None, Option, Options, Replay, Run, Some, Trial, Watch, is_mode, keep_options, keep_options_of, option_and_then, refl, run_line, run_line_of, still_line, still_line_of, subst, true, watch_line, watch_line_of, ℕ, ◌≡◌}
+use Rattle.command_words.specs.declared.command_lines.CommandLine.TheVariants.{Check}
 use Rattle.command_words.specs.declared.command_lines.CommandLine.{CommandLine}
-use Rattle.command_words.specs.declared.command_lines.Options.{Options}
 use Rattle.home_types.specs.declared.modes.Scheduler.TheVariants.{Fcfs, JustInTime, Timeline}
 use Rattle.home_types.specs.declared.modes.Scheduler.{Scheduler}
 use Rattle.home_types.specs.declared.modes.Visibility.TheVariants.{Eventual, Global, Partitioned, Weak}
 use Rattle.home_types.specs.declared.modes.Visibility.{Visibility}
-use Rattle.hub_commands.specs.CommandsTaken.{keep_options, keep_options_of, run_line, run_line_of, still_line, still_line_of, watch_line, watch_line_of}
-use Rattle.hub_core.specs.Openings.{is_mode}
-use Rattle.std.proofs.Common.{refl, subst, ◌≡◌}
-use Rattle.std.specs.Prelude.{IsTrue, List, None, Option, Some, option_and_then, true, ℕ}
 
 pub pair_is_mode : (scheduler : Scheduler) (model : Visibility) → goes_with scheduler model ≡ true → IsTrue (is_mode (record { model = model; scheduler = scheduler }))
 pair_is_mode Fcfs Weak goes = refl

@@ -3,16 +3,10 @@ use Rattle.command_words.proofs.Cited.{line_is_paired}
 use Rattle.command_words.specs.OptionGrammar.{options_by_words}
 use Rattle.command_words.specs.OptionWords.{goes_with}
 use Rattle.command_words.specs.RoomWords.{mode_for_rooms, room_mode_of, serial_mode}
-use Rattle.command_words.specs.declared.command_lines.CommandLine.TheVariants.{Run}
-use Rattle.command_words.specs.declared.command_lines.Options.{Options}
-use Rattle.history_book.specs.Settings.{is_weak}
-use Rattle.home_types.specs.declared.modes.Mode.{Mode}
+use Rattle.hub_commands.proofs.Prelude.{Bool, IsTrue, List, Mode, None, Option, Options, Run, Some, [], ap, codes, false, if◌then◌else◌, is_mode, is_weak, option_and_then, option_map, refl, subst, true, ℕ, ◌∷◌, ◌≡◌}
 use Rattle.home_types.specs.declared.modes.Visibility.TheVariants.{Eventual, Global, Partitioned, Weak}
 use Rattle.home_types.specs.declared.modes.Visibility.{Visibility}
 use Rattle.hub_commands.proofs.AskedModes.{pair_is_mode}
-use Rattle.hub_core.specs.Openings.{is_mode}
-use Rattle.std.proofs.Common.{Bool, List, None, Option, Some, [], ap, codes, false, if◌then◌else◌, option_map, refl, subst, true, ℕ, ◌≡◌, ◌∷◌}
-use Rattle.std.specs.Prelude.{IsTrue, option_and_then}
 use Rattle.std.specs.Str.{bytes_eq}
 
 -- the mode may be run, and promises an order

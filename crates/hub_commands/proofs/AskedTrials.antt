@@ -2,13 +2,9 @@
 use Rattle.command_words.specs.CommandLines.{check_of, command_line_of, trial_of}
 use Rattle.command_words.specs.OptionGrammar.{options_by_words}
 use Rattle.command_words.specs.TrialNumbers.{is_short_numeral, trial_number}
-use Rattle.command_words.specs.declared.command_lines.CommandLine.TheVariants.{Keep, Replay, Run, Trial, Watch}
+use Rattle.hub_commands.proofs.Prelude.{Bool, Keep, List, None, Option, Options, Replay, Run, Some, Trial, Watch, [], arith, codes, common_steps, false, if◌then◌else◌, nat_le, option_map, refl, subst, true, ℕ, ◌&&◌, ◌∷◌, ◌≡◌, ◌≤◌}
 use Rattle.command_words.specs.declared.command_lines.CommandLine.{CommandLine}
-use Rattle.command_words.specs.declared.command_lines.Options.{Options}
 use Rattle.home_types.specs.Limits.{most_windows}
-use Rattle.std.proofs.Common.{arith, refl, subst}
-use Rattle.std.proofs.lemmas.Grind.{common_steps}
-use Rattle.std.specs.Prelude.{Bool, List, None, Option, Some, [], codes, false, if◌then◌else◌, nat_le, option_map, true, ℕ, ◌&&◌, ◌∷◌, ◌≡◌, ◌≤◌}
 use Rattle.std.specs.Str.Parse.{digits_value}
 use Rattle.std.specs.Str.{bytes_eq}
 

@@ -1,20 +1,7 @@
 -- A home behind kept states: where a day begins on it.
-use Rattle.device_states.specs.Devices.{Shown}
-use Rattle.home_journal.specs.Journals.{IsStateOf}
-use Rattle.home_types.specs.declared.modes.Mode.{Mode}
-use Rattle.home_types.specs.declared.worlds.Stand.{Stand}
+use Rattle.hub_commands.proofs.Prelude.{AreLeftFrom, AreNew, Beginning, Bool, Err, HomeBegins, HomeGoesOn, HomeState, IfOk, IsStateOf, IsUnderWayOn, List, Mode, None, Ok, Option, Result, Script, Shown, Some, Stand, WindowWay, [], ap, course_behind, false, if◌then◌else◌, kept_course, kinds_of, length, length-map, new_day, refl, slice_get, start_home, start_stand, subst, sym, true, ℕ, ◌∙◌, ◌≡◌}
 use Rattle.hub_commands.proofs.DaysUnderWay.{new_left, new_unprobed, starts_on}
-use Rattle.hub_commands.specs.Days.{IsUnderWayOn, course_behind}
-use Rattle.hub_commands.specs.KeptDays.{HomeBegins, HomeGoesOn, kept_course}
-use Rattle.hub_commands.specs.Ways.{WindowWay}
-use Rattle.hub_core.specs.Homes.{AreNew, HomeState}
-use Rattle.legal_days.specs.LegalDays.{AreLeftFrom, Beginning, new_day}
 use Rattle.legal_days.specs.ResumedDays.{GoesOnBehind, IsStateResumed, resumed_day}
-use Rattle.routine_reader.specs.Rosters.{kinds_of, start_home, start_stand}
-use Rattle.routine_reader.specs.declared.scripts.Script.{Script}
-use Rattle.std.proofs.Common.{ap, refl, subst, sym, ◌∙◌}
-use Rattle.std.proofs.lemmas.List.{length-map}
-use Rattle.std.specs.Prelude.{Bool, Err, IfOk, List, None, Ok, Option, Result, Some, [], false, if◌then◌else◌, length, slice_get, true, ℕ, ◌≡◌}
 
 -- the home was resumed in the last state
 pub resumed_home : {D : Type 0} (shows : D → Shown) (script : Script) (kept : ℕ) (last : Option (List Stand)) (state : List Stand) (home : HomeState D)

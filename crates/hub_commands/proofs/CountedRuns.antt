@@ -1,38 +1,16 @@
 -- The runs of a day can be counted: no window has more than a script may have.
 use Rattle.command_rules.specs.Rosters.{Run}
-use Rattle.day_report.specs.Days.{abort_count, commit_count, is_abort, is_commit}
-use Rattle.device_states.specs.Devices.{Shown}
+use Rattle.hub_commands.proofs.Prelude.{Err, IsNextToTell, IsSound, IsToldOf, IsTrue, Kind, List, Listed, Mode, NextIs, Ok, Option, Result, Script, Shown, Some, Stand, WindowRecord, WindowText, WindowWay, WindowsArePlayed, [], abort_count, ap, arith, at_place, commit_count, count_by, is_abort, is_commit, length, length-map, new_course, plain_script, plain_window, refl, run_of_text, runs-there, script_runs, setting_of, slice_get, slice_get_within, subst, suc, sum_by, sym, ℕ, ◌*◌, ◌+◌, ◌<◌, ◌^◌, ◌∙◌, ◌∷◌, ◌≡◌, ◌≤◌}
 use Rattle.history_book.specs.WellFormed.{IsWellFormed}
-use Rattle.history_book.specs.declared.records.WindowRecord.{WindowRecord}
-use Rattle.home_types.specs.Listed.{Listed}
-use Rattle.home_types.specs.declared.kinds.Kind.{Kind}
-use Rattle.home_types.specs.declared.modes.Mode.{Mode}
 use Rattle.home_types.specs.declared.modes.Scheduler.{Scheduler}
 use Rattle.home_types.specs.declared.modes.Visibility.TheVariants.{Eventual, Global, Partitioned, Weak}
 use Rattle.home_types.specs.declared.modes.Visibility.{Visibility}
-use Rattle.home_types.specs.declared.worlds.Stand.{Stand}
-use Rattle.hub_commands.specs.Boards.{IsToldOf}
-use Rattle.hub_commands.specs.Days.{WindowsArePlayed, new_course}
-use Rattle.hub_commands.specs.Going.{IsNextToTell, NextIs}
-use Rattle.hub_commands.specs.Ways.{WindowWay}
 use Rattle.hub_commands.specs.declared.plays.DayUnderWay.{DayUnderWay}
-use Rattle.legal_days.proofs.Cited.{at_place}
-use Rattle.legal_days.specs.LegalDays.{setting_of}
 use Rattle.legal_days.specs.LegalWindows.{IsLegalWindow, all_ended, history_of}
 use Rattle.order_checker.proofs.Cited.{window_sound}
 use Rattle.printed_records.proofs.Cited.{all-ended}
-use Rattle.routine_reader.proofs.Cited.{runs-there}
-use Rattle.routine_reader.specs.Rosters.{run_of_text, script_runs}
-use Rattle.routine_reader.specs.Scripts.{plain_script, plain_window}
-use Rattle.routine_reader.specs.Sound.{IsSound}
-use Rattle.routine_reader.specs.declared.scripts.Script.{Script}
-use Rattle.routine_reader.specs.declared.scripts.WindowText.{WindowText}
 use Rattle.status_board.specs.declared.day_counts.Counts.{Counts}
-use Rattle.std.proofs.Common.{ap, arith, refl, subst, sym, ◌∙◌}
 use Rattle.std.proofs.lemmas.List.Sums.{sum_by-cons}
-use Rattle.std.proofs.lemmas.List.{length-map}
-use Rattle.std.proofs.lemmas.Option.{slice_get_within}
-use Rattle.std.specs.Prelude.{Err, IsTrue, List, Ok, Option, Result, Some, count_by, length, slice_get, suc, sum_by, [], ℕ, ◌*◌, ◌+◌, ◌<◌, ◌^◌, ◌∷◌, ◌≡◌, ◌≤◌}
 
 abbrev commits : WindowRecord → ℕ
 commits closed = count_by (λ kept. is_commit kept.entry) closed.history.items

@@ -1,29 +1,12 @@
 -- A day under way, and one window more.
-use Rattle.device_states.specs.Devices.{Shown}
-use Rattle.history_book.specs.Settings.{Setting}
-use Rattle.history_book.specs.declared.records.WindowRecord.{WindowRecord}
-use Rattle.home_types.proofs.Cited.{snoc_get}
+use Rattle.hub_commands.proofs.Prelude.{AreLeftFrom, AreNew, Bool, DayCourse, HasGoneOn, HaveCommitted, HomeIsKept, HomeState, IsLegalCutDayFrom, IsLegalDayFrom, IsUnderWayOn, List, Mode, NoneHasFailedOn, Script, Setting, Shown, Some, WindowRecord, WindowText, WindowWay, WindowsArePlayedOn, [], ap, arith, at_place, false, inl, inr, kinds_of, length, length-map, map, new_course, new_day, one_more_where, option_map, refl, script_of, script_runs, setting_from, setting_on, slice_get, slice_get_within, slice_index_or, snoc_get, start_home, start_stand, state_from, subst, suc, sym, total, true, unwrap_or, zero, ℕ, ◌++◌, ◌+◌, ◌<◌, ◌∙◌, ◌∷◌, ◌≡◌, ◌≤◌}
 use Rattle.home_types.specs.HomeStates.{stand_at}
-use Rattle.home_types.specs.declared.modes.Mode.{Mode}
-use Rattle.hub_core.specs.Homes.{AreNew, HomeIsKept, HomeState}
-use Rattle.legal_days.proofs.Cited.{at_place}
-use Rattle.legal_days.specs.LegalDays.{AreLeftFrom, IsLegalCutDayFrom, IsLegalDayFrom, new_day, one_more_where, setting_from, state_from, total}
 use Rattle.legal_days.specs.LegalWindows.{IsLegalWindow}
 use Rattle.hub_commands.proofs.PlayedWindows.{IsPlayed, device_played, setting_played, size_played}
 use Rattle.hub_commands.proofs.Snocs.{length_more, sum_more}
-use Rattle.hub_commands.specs.Days.{DayCourse, HaveCommitted, IsUnderWayOn, NoneHasFailedOn, WindowsArePlayedOn, new_course, script_of}
-use Rattle.hub_commands.specs.Played.{HasGoneOn, setting_on}
-use Rattle.hub_commands.specs.Ways.{WindowWay}
 use Rattle.window_devices.proofs.Cited.{get_front, get_last}
-use Rattle.routine_reader.specs.Rosters.{kinds_of, script_runs, start_home, start_stand}
 use Rattle.routine_reader.specs.declared.scripts.DeviceText.{DeviceText}
-use Rattle.routine_reader.specs.declared.scripts.Script.{Script}
-use Rattle.routine_reader.specs.declared.scripts.WindowText.{WindowText}
 use Rattle.hub_core.specs.HubCalls.{NoneFails, RunsHaveEnded}
-use Rattle.std.proofs.Common.{ap, arith, inl, inr, refl, subst, sym, ◌∙◌}
-use Rattle.std.proofs.lemmas.List.{length-map}
-use Rattle.std.proofs.lemmas.Option.{slice_get_within}
-use Rattle.std.specs.Prelude.{Bool, List, Some, [], false, length, map, option_map, slice_get, slice_index_or, suc, true, unwrap_or, zero, ℕ, ◌++◌, ◌+◌, ◌<◌, ◌∷◌, ◌≡◌, ◌≤◌}
 
 -- a window more leaves the states before it
 state_before : (course : DayCourse) (records : List WindowRecord) (closed : WindowRecord) (k : ℕ) → k ≤ length records → state_from course.begins (records ++ closed ∷ []) k ≡ state_from course.begins records k

@@ -1,10 +1,6 @@
 -- The lines of a text one after another, and its division at the first that divides.
 use Rattle.hub_commands.specs.Divisions.{byte_in_front, divided, division_of, is_divider, lines_with_feeds, with_script_line}
-use Rattle.std.proofs.Common.{ap, append-nil, append_assoc, arith, drop, length, refl, sym, take, ◌-◌, ◌∙◌}
-use Rattle.std.proofs.lemmas.Grind.{common_steps}
-use Rattle.std.proofs.lemmas.List.{drop_all, length-drop, take_all}
-use Rattle.std.specs.List.{flat_map, position, position_or_len}
-use Rattle.std.specs.Prelude.{Bool, List, None, Some, [], false, if◌then◌else◌, nat_lt, suc, true, zero, ℕ, ◌+◌, ◌++◌, ◌<◌, ◌==◌, ◌∷◌, ◌≡◌, ◌≤◌}
+use Rattle.hub_commands.proofs.Prelude.{Bool, List, None, Some, [], ap, append-nil, append_assoc, arith, common_steps, drop, drop_all, false, flat_map, if◌then◌else◌, length, length-drop, nat_lt, position, position_or_len, refl, suc, sym, take, take_all, true, zero, ℕ, ◌++◌, ◌+◌, ◌-◌, ◌<◌, ◌==◌, ◌∙◌, ◌∷◌, ◌≡◌, ◌≤◌}
 
 -- a line that ends with the first line feed
 pub line_fed : (text : List ℕ) (k : ℕ) → position_or_len (λ b. b == 10) text ≡ k → k < length text → lines_with_feeds text ≡ take (suc k) text ∷ lines_with_feeds (drop (suc k) text)

@@ -1,18 +1,10 @@
 -- A call that ended before its script was read.
-use Rattle.command_words.specs.declared.command_lines.CommandLine.TheVariants.{Check, Keep, Replay, Run, Trial, Watch}
+use Rattle.hub_commands.proofs.Prelude.{Day, Err, Fault, InputIsRead, IsUnread, Keep, List, Memory, NoScriptIsRead, None, NothingIsPlayed, Option, Reads, Replay, Run, Shown, Some, Trial, TrialEnds, Watch, WindowWay, Writes, arith, inl, inr, refl, subst, sym, ℕ, ◌≡◌}
+use Rattle.command_words.specs.declared.command_lines.CommandLine.TheVariants.{Check}
 use Rattle.command_words.specs.declared.command_lines.CommandLine.{CommandLine}
 use Rattle.day_clock.specs.Sources.{TakesCount, TakesUpTo}
-use Rattle.device_states.specs.Devices.{Shown}
 use Rattle.hub_commands.specs.Calls.{CallEnds}
 use Rattle.hub_commands.specs.Checks.{CheckEnds}
-use Rattle.hub_commands.specs.Finishes.{InputIsRead, IsUnread, NoScriptIsRead, NothingIsPlayed, Reads, Writes}
-use Rattle.hub_commands.specs.Trials.{TrialEnds}
-use Rattle.hub_commands.specs.Ways.{WindowWay}
-use Rattle.hub_commands.specs.declared.faults.Fault.TheVariants.{Memory}
-use Rattle.hub_commands.specs.declared.faults.Fault.{Fault}
-use Rattle.hub_commands.specs.declared.finishes.Day.{Day}
-use Rattle.std.proofs.Common.{arith, inl, inr, refl, subst, sym}
-use Rattle.std.specs.Prelude.{Err, List, None, Option, Some, ℕ, ◌≡◌}
 
 -- no byte was taken
 none_taken : (source : Reads) (n : ℕ) → IsUnread source → TakesUpTo source.left source.rest n

@@ -1,16 +1,7 @@
 -- A day that was begun is handed back, however it ends.
-use Rattle.command_words.specs.declared.command_lines.Options.{Options}
-use Rattle.device_states.specs.Devices.{Shown}
-use Rattle.hub_commands.specs.Days.{Closing, DayCourse}
-use Rattle.hub_commands.specs.Finishes.{DayEndsOn, Writes}
-use Rattle.hub_commands.specs.KeptDays.{KeptDayEnds}
+use Rattle.hub_commands.proofs.Prelude.{Check, Closing, Cross, Damaged, Day, DayCourse, DayEndsOn, Disk, Fault, HasStarved, KeptDayEnds, List, Memory, None, Option, Options, Read, Shown, Some, WindowWay, Words, Write, Writes, refl, ℕ, ◌≡◌, ◌≢◌}
 use Rattle.hub_commands.specs.LastLines.{LineIsWritten}
-use Rattle.hub_commands.specs.Trials.{HasStarved}
-use Rattle.hub_commands.specs.Ways.{WindowWay}
-use Rattle.hub_commands.specs.declared.faults.Fault.TheVariants.{Check, Cross, Damaged, Disk, Memory, Read, Script as Refuses, Words, Write}
-use Rattle.hub_commands.specs.declared.faults.Fault.{Fault}
-use Rattle.hub_commands.specs.declared.finishes.Day.{Day}
-use Rattle.std.specs.Prelude.{List, None, Option, Some, refl, ℕ, ◌≡◌, ◌≢◌}
+use Rattle.hub_commands.specs.declared.faults.Fault.TheVariants.{Script as Refuses}
 
 is_given : {D : Type 0} (o : Option (Day D)) (day : Day D) → o ≡ Some day → o ≢ None
 is_given o day is none = absurd (cc)

@@ -1,29 +1,14 @@
 -- A call that keeps the states of a day: how it ends, from how its parts have.
-use Rattle.command_words.specs.declared.command_lines.Options.{Options}
-use Rattle.device_states.specs.Devices.{Shown}
-use Rattle.history_book.specs.declared.records.WindowRecord.{WindowRecord}
+use Rattle.hub_commands.proofs.Prelude.{Bool, Day, Err, Fault, HasEndedBehind, IsDamage, IsDiskLeft, IsReplayOf, IsUnread, JournalState, KeepsFirst, Kind, LeavesOldOrSame, List, Memory, NoScriptIsRead, None, NothingIsPlayed, Ok, Option, Options, Reads, Script, Shown, Some, Stand, WindowRecord, Writes, ap, arith, inl, inr, kinds_of, last_states, length, refl, subst, sym, true, windows_of, ℕ, ◌<◌, ◌∙◌, ◌≡◌, ◌≤◌, ◌⊎◌}
 use Rattle.home_journal.proofs.Cited.{then_on, weaker}
 use Rattle.home_journal.specs.Disks.{LeavesThis}
-use Rattle.home_journal.specs.Journals.{IsDamage, JournalState, KeepsFirst, LeavesOldOrSame}
 use Rattle.home_journal.specs.KeptStates.{kept_states}
 use Rattle.home_journal.specs.declared.journals.OpenFault.TheVariants.{Damaged as HasDamage, Failed, NoMemory}
 use Rattle.home_journal.specs.declared.journals.OpenFault.{OpenFault}
 use Rattle.home_types.specs.Limits.{most_windows}
-use Rattle.home_types.specs.declared.kinds.Kind.{Kind}
-use Rattle.home_types.specs.declared.worlds.Stand.{Stand}
 use Rattle.hub_commands.proofs.KeptStates.{bad_within, none_kept}
-use Rattle.hub_commands.specs.Finishes.{IsUnread, NoScriptIsRead, NothingIsPlayed, Reads, Writes}
 use Rattle.hub_commands.specs.KeepCalls.{DayGoesOn, IsJournalOpened, JournalIsOpened, KeepEnds, opening_fault}
-use Rattle.hub_commands.specs.KeptDays.{HasEndedBehind, IsDiskLeft, last_states, windows_of}
-use Rattle.hub_commands.specs.Ways.{IsReplayOf}
-use Rattle.hub_commands.specs.declared.faults.Fault.{Fault}
-use Rattle.hub_commands.specs.declared.finishes.Day.{Day}
-use Rattle.routine_reader.specs.Rosters.{kinds_of}
-use Rattle.routine_reader.specs.declared.scripts.Script.{Script}
-use Rattle.std.proofs.Common.{ap, arith, inl, inr, refl, subst, sym, ◌∙◌}
-use Rattle.std.specs.Prelude.{Bool, Err, List, None, Ok, Option, Some, length, true, ℕ, ◌<◌, ◌≡◌, ◌≤◌, ◌⊎◌}
 use Rattle.hub_commands.proofs.EndedCalls.{starved_input}
-use Rattle.hub_commands.specs.declared.faults.Fault.TheVariants.{Memory}
 
 module _ {Q : Type 0} (told : Bool) (seen : Q → List ℕ) (images : Q → List ℕ → Type 0) (moment : Q → ℕ) (since : Q → ℕ → List ℕ → Type 0) (failures : Q → ℕ) (script : Script) (disk now : Q) where
   abbrev own_kinds : List Kind

@@ -1,33 +1,12 @@
 -- A day that is kept: one window more, and how it ends.
-use Rattle.command_words.specs.declared.command_lines.Options.{Options}
-use Rattle.device_states.specs.Devices.{Shown}
-use Rattle.history_book.specs.declared.records.WindowRecord.{WindowRecord}
+use Rattle.hub_commands.proofs.Prelude.{AddsStates, Bool, Check, Cross, Damaged, Day, DayCourse, DayEndsOn, DevicesAreProbed, Disk, Fault, HandsAllBack, HasEndedKept, HasGoneOn, HomeState, IsDiskLeft, IsGoingOn, IsJournalSoFar, IsLegalCutDayFrom, IsUnkeptOn, JournalState, KeepsAtLeast, KeepsFirst, KeptDayEnds, Kind, LeavesFirst, List, Listed, Memory, None, Ok, Option, Options, Read, Script, Shown, Some, Stand, WindowRecord, WindowWay, Words, Write, Writes, [], ap, append-nil, append_assoc, arith, inl, inr, kinds_of, last_states, length, length-drop, length-map, plain, refl, states_kept, subst, sym, true, windows_behind, windows_of, ℕ, ◌++◌, ◌+◌, ◌-◌, ◌<◌, ◌∙◌, ◌∷◌, ◌≡◌, ◌≤◌, ◌⊎◌}
 use Rattle.home_journal.proofs.Cited.{then_on, weaker}
 use Rattle.home_journal.specs.Disks.{LeavesOnly, LeavesThis}
-use Rattle.home_journal.specs.Journals.{AddsStates, JournalState, KeepsFirst, LeavesFirst, states_kept}
 use Rattle.home_journal.specs.KeptStates.{kept_states}
-use Rattle.home_types.specs.Listed.{Listed}
-use Rattle.home_types.specs.declared.kinds.Kind.{Kind}
-use Rattle.home_types.specs.declared.worlds.Stand.{Stand}
 use Rattle.hub_commands.proofs.DaysUnderWay.{cut_is_legal}
 use Rattle.hub_commands.proofs.KeptStates.{all_kept, first_kept, next_kept, states_more, surely_few}
 use Rattle.hub_commands.proofs.Snocs.{length_more}
-use Rattle.hub_commands.specs.Days.{DayCourse, DevicesAreProbed, plain}
-use Rattle.hub_commands.specs.Finishes.{DayEndsOn, Writes}
-use Rattle.hub_commands.specs.Going.{IsGoingOn}
-use Rattle.hub_commands.specs.KeptDays.{HandsAllBack, HasEndedKept, IsDiskLeft, IsJournalSoFar, IsUnkeptOn, KeepsAtLeast, KeptDayEnds, last_states, windows_of}
-use Rattle.hub_commands.specs.Played.{HasGoneOn}
-use Rattle.hub_commands.specs.Ways.{WindowWay}
-use Rattle.hub_commands.specs.declared.faults.Fault.TheVariants.{Check, Cross, Damaged, Disk, Memory, Read, Script as Refuses, Words, Write}
-use Rattle.hub_commands.specs.declared.faults.Fault.{Fault}
-use Rattle.hub_commands.specs.declared.finishes.Day.{Day}
-use Rattle.hub_core.specs.Homes.{HomeState}
-use Rattle.legal_days.specs.LegalDays.{IsLegalCutDayFrom, windows_behind}
-use Rattle.routine_reader.specs.Rosters.{kinds_of}
-use Rattle.routine_reader.specs.declared.scripts.Script.{Script}
-use Rattle.std.proofs.Common.{ap, append-nil, append_assoc, arith, inl, inr, refl, subst, sym, ◌∙◌}
-use Rattle.std.proofs.lemmas.List.{length-drop, length-map}
-use Rattle.std.specs.Prelude.{Bool, List, None, Ok, Option, Some, [], length, true, ℕ, ◌+◌, ◌++◌, ◌-◌, ◌<◌, ◌∷◌, ◌≡◌, ◌≤◌, ◌⊎◌}
+use Rattle.hub_commands.specs.declared.faults.Fault.TheVariants.{Script as Refuses}
 
 -- what ends without a failing disk
 pub day_kept : {D : Type 0} (works : WindowWay) (shows : D → Shown) (course : DayCourse) (options : Options) (sink : Writes) (day : Option (Day D)) (fault : Option Fault)

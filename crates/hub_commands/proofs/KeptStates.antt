@@ -1,17 +1,9 @@
 -- The states that a journal keeps, with one more.
-use Rattle.history_book.specs.declared.records.WindowRecord.{WindowRecord}
-use Rattle.home_journal.specs.Journals.{KeepsFirst}
+use Rattle.hub_commands.proofs.Prelude.{Bool, Check, Cross, Damaged, Disk, Err, Fault, KeepsAtLeast, KeepsFirst, Kind, List, Memory, None, Ok, Option, Read, Result, Some, Stand, WindowRecord, Words, Write, [], ap, append-nil, append_assoc, arith, drop, false, if◌then◌else◌, last_states, length, length-append, map-append, nat_lt, refl, suc, surely_kept, sym, take, take_all, true, zero, ℕ, ◌&&◌, ◌++◌, ◌+◌, ◌<◌, ◌==◌, ◌∙◌, ◌∷◌, ◌≡◌, ◌≤◌}
 use Rattle.home_journal.specs.KeptStates.{kept_states, states_from, with_first}
 use Rattle.home_journal.specs.Slots.{body_size, open_slots, slot_state}
-use Rattle.home_types.specs.declared.kinds.Kind.{Kind}
-use Rattle.home_types.specs.declared.worlds.Stand.{Stand}
-use Rattle.hub_commands.specs.KeptDays.{KeepsAtLeast, last_states, surely_kept}
-use Rattle.hub_commands.specs.declared.faults.Fault.TheVariants.{Check, Cross, Damaged, Disk, Memory, Read, Script as Refuses, Words, Write}
-use Rattle.hub_commands.specs.declared.faults.Fault.{Fault}
-use Rattle.std.proofs.Common.{ap, append-nil, append_assoc, arith, refl, sym, ◌∙◌}
+use Rattle.hub_commands.specs.declared.faults.Fault.TheVariants.{Script as Refuses}
 use Rattle.std.proofs.Math.Seq.{take-append_seam}
-use Rattle.std.proofs.lemmas.List.{length-append, map-append, take_all}
-use Rattle.std.specs.Prelude.{Bool, Err, List, None, Ok, Option, Result, Some, [], drop, false, if◌then◌else◌, length, nat_lt, suc, take, true, zero, ℕ, ◌&&◌, ◌+◌, ◌++◌, ◌<◌, ◌==◌, ◌∷◌, ◌≡◌, ◌≤◌}
 
 -- a first part is one of more
 take_wider : {X : Type 0} (xs ys : List X) (i : ℕ) → (j : ℕ) × (take i xs ≡ take j (xs ++ ys))

@@ -1,15 +1,7 @@
 -- Which windows a day hands back that ended early.
-use Rattle.history_book.specs.declared.records.WindowRecord.{WindowRecord}
-use Rattle.home_types.specs.Listed.{Listed}
-use Rattle.hub_commands.specs.Going.{HandsBack}
+use Rattle.hub_commands.proofs.Prelude.{ChunkFault, Day, Fault, HandsBack, List, Listed, None, Option, Some, WindowRecord, ap, windows_of, ◌∙◌, ◌≡◌}
 use Rattle.hub_commands.specs.Chunks.{StopEnds}
-use Rattle.hub_commands.specs.declared.faults.Fault.{Fault}
-use Rattle.hub_commands.specs.declared.finishes.Day.{Day}
 use Rattle.hub_commands.specs.declared.chunks.ChunkFault.TheVariants.{Memory, Sink}
-use Rattle.hub_commands.specs.declared.chunks.ChunkFault.{ChunkFault}
-use Rattle.hub_commands.specs.KeptDays.{windows_of}
-use Rattle.std.proofs.Common.{ap, ◌∙◌}
-use Rattle.std.specs.Prelude.{List, None, Option, Some, ◌≡◌}
 
 -- where a chunk was not written they are those that were closed
 pub stop_back : {D : Type 0} (windows : Listed WindowRecord) (items : List D) (fault : ChunkFault) (day : Option (Day D)) (why : Option Fault) (records : List WindowRecord)

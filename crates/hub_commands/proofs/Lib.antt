@@ -1,3 +1,4 @@
+mod Prelude
 mod Snocs
 mod DaysUnderWay
 mod AskedModes

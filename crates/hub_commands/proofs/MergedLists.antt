@@ -2,18 +2,11 @@
 use Rattle.command_rules.specs.Items.{is_ran}
 use Rattle.history_book.specs.Histories.{answers_in}
 use Rattle.history_book.specs.Readings.{Reading}
-use Rattle.history_book.specs.declared.records.WindowRecord.{WindowRecord}
-use Rattle.home_types.specs.Listed.{Listed}
+use Rattle.hub_commands.proofs.Prelude.{All, Bool, List, Listed, Option, RoomWindow, Some, WindowRecord, Windows, [], ap, arith, at_place, common_steps, count_by, false, filter, if◌then◌else◌, length, map, option_and_then, option_map, records_of, refl, replicate, slice_get, subst, suc, sym, true, zero, ℕ, ◌<◌, ◌==◌, ◌∙◌, ◌∷◌, ◌≡◌}
 use Rattle.home_types.specs.declared.items.Item.TheVariants.{Back, Failed, Ran}
 use Rattle.home_types.specs.declared.items.Item.{Item}
-use Rattle.hub_commands.specs.RoomDays.{Windows, records_of}
-use Rattle.legal_days.proofs.Cited.{at_place}
 use Rattle.room_hubs.specs.Merges.{Merge, answers_of, home_order, own_order}
 use Rattle.room_hubs.specs.Numbers.{Room, home_item}
-use Rattle.room_hubs.specs.declared.rosters.RoomWindow.{RoomWindow}
-use Rattle.std.proofs.Common.{All, Bool, List, Option, Some, [], ap, arith, false, filter, length, map, refl, subst, suc, sym, true, zero, ℕ, ◌<◌, ◌∙◌, ◌≡◌, ◌∷◌}
-use Rattle.std.proofs.lemmas.Grind.{common_steps}
-use Rattle.std.specs.Prelude.{count_by, if◌then◌else◌, option_and_then, option_map, replicate, slice_get, ◌==◌}
 
 -- ---- merges
 

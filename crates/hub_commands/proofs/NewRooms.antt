@@ -1,19 +1,7 @@
 -- The home of a room, built from the room's devices alone.
-use Rattle.device_states.specs.Devices.{Shown}
-use Rattle.home_types.proofs.Cited.{snoc_get}
+use Rattle.hub_commands.proofs.Prelude.{AreNew, Err, HomeState, IfOk, IsNew, IsNewHome, List, Ok, PlainDevice, Result, Script, Shown, Some, [], ap, arith, at_place, inl, inr, length, length-map, map, option_map, plain_device, plain_devices, refl, room_devices, slice_get, slice_get-map, slice_get_within, snoc_get, start_stand, subst, sym, true, ℕ, ◌++◌, ◌∙◌, ◌∷◌, ◌≡◌}
 use Rattle.home_types.specs.declared.memory.NoMemory.{NoMemory}
-use Rattle.hub_commands.specs.RoomGoing.{IsNewHome}
-use Rattle.hub_core.specs.Homes.{AreNew, HomeState, IsNew}
-use Rattle.legal_days.proofs.Cited.{at_place}
-use Rattle.room_hubs.specs.RoomScripts.{plain_devices, room_devices}
-use Rattle.routine_reader.specs.Rosters.{start_stand}
-use Rattle.routine_reader.specs.Scripts.{PlainDevice, plain_device}
 use Rattle.routine_reader.specs.declared.scripts.DeviceText.{DeviceText}
-use Rattle.routine_reader.specs.declared.scripts.Script.{Script}
-use Rattle.std.proofs.Common.{Err, List, Ok, Result, Some, [], ap, arith, inl, inr, length, map, option_map, refl, subst, sym, true, ℕ, ◌++◌, ◌∙◌, ◌≡◌, ◌∷◌}
-use Rattle.std.proofs.lemmas.List.{length-map}
-use Rattle.std.proofs.lemmas.Option.{slice_get-map, slice_get_within}
-use Rattle.std.specs.Prelude.{IfOk, slice_get}
 
 map_twice : {X Y Z : Type 0} (g : Y → Z) (f : X → Y) (xs : List X) → map g (map f xs) ≡ map (λ x. g (f x)) xs
 map_twice g f [] = refl

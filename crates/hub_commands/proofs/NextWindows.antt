@@ -1,25 +1,11 @@
 -- The next window of a day: opened, worked, and what came of it.
-use Rattle.device_states.specs.Devices.{Shown}
-use Rattle.history_book.specs.declared.records.WindowRecord.{WindowRecord}
-use Rattle.home_types.specs.Listed.{Listed}
-use Rattle.home_types.specs.declared.modes.Mode.{Mode}
+use Rattle.hub_commands.proofs.Prelude.{DayCourse, Err, HasGoneOn, HomeIsKept, HomeState, IfErr, IfOk, IsUnderWayOn, IsWorkedAs, List, Listed, Mode, NextIs, NextIsOpened, Ok, PlaysOneMore, Result, Script, Shown, Some, WindowRecord, WindowText, WindowWay, [], ap, arith, course_behind, drop, length, map, option_map, refl, run_of_text, script_of, script_runs, setting_on, slice_get, subst, suc, sym, unwrap_or, windows_behind, zero, ℕ, ◌++◌, ◌+◌, ◌∙◌, ◌∷◌, ◌≡◌}
 use Rattle.hub_commands.proofs.DaysUnderWay.{gone_on}
-use Rattle.hub_commands.specs.Days.{DayCourse, IsUnderWayOn, course_behind, script_of}
-use Rattle.hub_commands.specs.Going.{NextIs, PlaysOneMore}
-use Rattle.hub_commands.specs.Played.{HasGoneOn, IsWorkedAs, NextIsOpened, setting_on}
-use Rattle.hub_commands.specs.Ways.{WindowWay}
 use Rattle.hub_commands.specs.declared.plays.DayUnderWay.{DayUnderWay}
 use Rattle.hub_core.specs.HubCalls.{IsOpened}
-use Rattle.hub_core.specs.Homes.{HomeIsKept, HomeState}
-use Rattle.legal_days.specs.LegalDays.{windows_behind}
 use Rattle.hub_core.specs.OpenHubs.{OpenHub, configuration_of}
 use Rattle.hub_core.specs.Steps.{opened}
-use Rattle.routine_reader.specs.Rosters.{run_of_text, script_runs}
-use Rattle.routine_reader.specs.declared.scripts.Script.{Script}
-use Rattle.routine_reader.specs.declared.scripts.WindowText.{WindowText}
 use Rattle.run_replay.proofs.Cited.{fresh_where}
-use Rattle.std.proofs.Common.{ap, arith, refl, subst, sym, ◌∙◌}
-use Rattle.std.specs.Prelude.{Err, IfErr, IfOk, List, Ok, Result, Some, [], drop, length, map, option_map, slice_get, suc, unwrap_or, zero, ℕ, ◌+◌, ◌++◌, ◌∷◌, ◌≡◌}
 
 get_behind : {X : Type 0} (xs : List X) (n k : ℕ) → slice_get (drop n xs) k ≡ slice_get xs (n + k)
 get_behind xs zero k = let none : k ≡ 0 + k = omega (arith) in ap (λ i. slice_get xs i) none

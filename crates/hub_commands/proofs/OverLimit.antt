@@ -3,9 +3,7 @@ use Rattle.day_clock.specs.Sources.{TakesCount}
 use Rattle.routine_reader.specs.Readings.{script_reading}
 use Rattle.routine_reader.specs.declared.faults.Count.TheVariants.{Bytes}
 use Rattle.routine_reader.specs.declared.faults.ReadFault.TheVariants.{TooMany}
-use Rattle.std.proofs.Common.{arith, refl}
-use Rattle.std.proofs.lemmas.Grind.{common_steps}
-use Rattle.std.specs.Prelude.{Err, IfSome, List, None, Option, Some, false, length, nat_le, ℕ, ◌≡◌, ◌≤◌}
+use Rattle.hub_commands.proofs.Prelude.{Err, IfSome, List, None, Option, Some, arith, common_steps, false, length, nat_le, refl, ℕ, ◌≡◌, ◌≤◌}
 
 too_long : (bytes : List ℕ) → 4194305 ≤ length bytes → script_reading bytes ≡ Err (TooMany Bytes 4194305 4194304)
 unfolding script_reading

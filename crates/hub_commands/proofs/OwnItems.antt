@@ -6,17 +6,13 @@ use Rattle.history_book.specs.Histories.{entry, reading}
 use Rattle.history_book.specs.Lines.{without}
 use Rattle.history_book.specs.Gaps.{split_of}
 use Rattle.history_book.specs.Readings.{Reading, nothing_read}
-use Rattle.history_book.specs.Settings.{Setting, is_device}
+use Rattle.hub_commands.proofs.Prelude.{Bool, IsTrue, List, Setting, [], ap, arith, common_steps, cond, false, fold, is_device, list_any, not, refl, true, ℕ, ◌++◌, ◌+◌, ◌||◌, ◌∙◌, ◌∷◌, ◌≡◌}
 use Rattle.history_book.specs.WellFormed.{IsWellFormed, along, may_follow}
 use Rattle.history_book.specs.declared.entries.End.TheVariants.{Aborted, Committed}
 use Rattle.history_book.specs.declared.entries.Entry.TheVariants.{Arrived, Did, Doomed, Ended, Fell, Placed, Rose, Undid}
 use Rattle.history_book.specs.declared.entries.Entry.{Entry}
 use Rattle.home_types.specs.declared.items.Item.TheVariants.{Back, Failed, Ran}
 use Rattle.home_types.specs.declared.items.Item.{Item}
-use Rattle.std.proofs.Common.{ap, arith, refl, ◌∙◌}
-use Rattle.std.proofs.lemmas.Grind.{common_steps}
-use Rattle.std.specs.List.{list_any}
-use Rattle.std.specs.Prelude.{Bool, IsTrue, List, [], cond, false, fold, not, true, ℕ, ◌++◌, ◌+◌, ◌||◌, ◌∷◌, ◌≡◌}
 
 -- the item is no run of the window, and no event of one of its devices
 abbrev pub is_stray : Setting → Item → Bool

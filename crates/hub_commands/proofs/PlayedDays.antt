@@ -1,30 +1,13 @@
 -- The day of a script: what holds before each window, and how it ends.
-use Rattle.day_report.specs.Days.{head_text, total_text, window_text}
-use Rattle.command_words.specs.declared.command_lines.Options.{Options}
-use Rattle.device_states.specs.Devices.{Shown}
-use Rattle.history_book.specs.declared.records.WindowRecord.{WindowRecord}
+use Rattle.hub_commands.proofs.Prelude.{AppendsFirst, ChunkFault, Day, DayCourse, DayEndsOn, DevicesAreProbed, Err, Fault, HasGoneOn, HomeState, IfOk, IsCutOn, IsGoingOn, IsLegalCutDayFrom, IsLegalDayFrom, IsStarvedOn, IsUnderWayOn, IsWholeOn, IsWrittenAsClosedOn, List, Listed, Mode, None, Ok, Option, Options, Result, Shown, Some, WindowRecord, WindowWay, WindowsArePlayedOn, [], ap, append-nil, append_assoc, arith, head_text, if◌then◌else◌, length, plain, refl, script_of, subst, sym, take, text_due_on, text_on, total_text, window_text, written, ℕ, ◌++◌, ◌+◌, ◌==◌, ◌∙◌, ◌∷◌, ◌≡◌}
 use Rattle.day_clock.specs.Sinks.{AppendsPart}
-use Rattle.home_types.specs.Listed.{Listed}
-use Rattle.home_types.specs.declared.modes.Mode.{Mode}
-use Rattle.hub_core.specs.Homes.{HomeState}
-use Rattle.legal_days.specs.LegalDays.{IsLegalCutDayFrom, IsLegalDayFrom}
 use Rattle.hub_commands.proofs.DaysUnderWay.{cut_is_legal, day_is_legal, no_window}
 use Rattle.hub_commands.proofs.Snocs.{no_snoc, snoc_front}
 use Rattle.hub_commands.proofs.Texts.{appends_keeps, appends_more, due_whole, keeps_appends, part_more, part_wider, text_more, text_starts, text_whole, whole_first}
-use Rattle.hub_commands.specs.Days.{DayCourse, DevicesAreProbed, IsUnderWayOn, WindowsArePlayedOn, plain, script_of, text_due_on, text_on}
-use Rattle.hub_commands.specs.Finishes.{AppendsFirst, DayEndsOn, IsCutOn, IsStarvedOn, IsWholeOn, IsWrittenAsClosedOn, written}
-use Rattle.hub_commands.specs.Going.{IsGoingOn}
 use Rattle.hub_commands.specs.Chunks.{ChunkEnds, StopEnds}
-use Rattle.hub_commands.specs.Played.{HasGoneOn}
-use Rattle.hub_commands.specs.Ways.{WindowWay}
 use Rattle.hub_commands.specs.declared.faults.Fault.TheVariants.{Memory as WantsMemory}
-use Rattle.hub_commands.specs.declared.faults.Fault.{Fault}
-use Rattle.hub_commands.specs.declared.finishes.Day.{Day}
 use Rattle.hub_commands.specs.declared.chunks.ChunkFault.TheVariants.{Memory, Sink}
-use Rattle.hub_commands.specs.declared.chunks.ChunkFault.{ChunkFault}
-use Rattle.std.proofs.Common.{ap, append-nil, append_assoc, arith, refl, subst, sym, ◌∙◌}
 use Rattle.std.specs.Io.KnownBytes.{Appends, Keeps}
-use Rattle.std.specs.Prelude.{Err, IfOk, List, None, Ok, Option, Result, Some, [], if◌then◌else◌, length, take, ℕ, ◌+◌, ◌++◌, ◌==◌, ◌∷◌, ◌≡◌}
 
 -- what follows the texts so far in the text that is due
 abbrev after_texts : DayCourse → List WindowRecord → List ℕ

@@ -1,17 +1,8 @@
 -- A window of the script that was opened on a home and worked: what it leaves.
 use Rattle.device_gate.proofs.Cited.{home_at}
 use Rattle.device_gate.specs.declared.gates.Place.TheVariants.{Home}
-use Rattle.device_states.specs.Devices.{Shown}
-use Rattle.history_book.specs.declared.records.WindowRecord.{WindowRecord}
-use Rattle.home_types.specs.declared.modes.Mode.{Mode}
-use Rattle.hub_commands.specs.Played.{IsWorkedAs, NextIsOpened, setting_on}
-use Rattle.hub_commands.specs.Ways.{WindowWay}
-use Rattle.hub_core.specs.Homes.{HomeState}
+use Rattle.hub_commands.proofs.Prelude.{HomeState, IsWorkedAs, Mode, NextIsOpened, Script, Shown, Some, WindowRecord, WindowWay, ap, length, length-map, setting_on, slice_get, slice_index_or, sym, ℕ, ◌+◌, ◌∙◌, ◌≡◌}
 use Rattle.hub_core.specs.OpenHubs.{OpenHub}
-use Rattle.routine_reader.specs.declared.scripts.Script.{Script}
-use Rattle.std.proofs.Common.{ap, sym, ◌∙◌}
-use Rattle.std.proofs.lemmas.List.{length-map}
-use Rattle.std.specs.Prelude.{Some, length, slice_get, slice_index_or, ℕ, ◌+◌, ◌≡◌}
 
 -- the script's window of this number was opened on the home, was worked in this way, and left another home with this record
 pub record IsPlayed {D : Type 0} (works : WindowWay) (shows : D → Shown) (script : Script) (mode : Mode)

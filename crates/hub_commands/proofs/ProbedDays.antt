@@ -1,18 +1,6 @@
 -- A day that was run: its devices were probed as often as its windows say.
-use Rattle.command_words.specs.declared.command_lines.Options.{Options}
-use Rattle.device_states.specs.Devices.{Shown}
+use Rattle.hub_commands.proofs.Prelude.{Closing, Day, DayEnds, DayIsWhole, Fault, IsRead, IsRunWithin, List, None, Option, Options, Reads, Script, Shown, Some, WindowText, Writes, [], ap, arith, at_place, fold, length, refl, slice_get, slice_get_within, suc, zero, ℕ, ◌+◌, ◌∙◌, ◌∷◌, ◌≡◌}
 use Rattle.hub_commands.specs.Calls.{IsProbedInAll}
-use Rattle.hub_commands.specs.Days.{Closing}
-use Rattle.hub_commands.specs.Finishes.{DayEnds, DayIsWhole, IsRead, Reads, Writes}
-use Rattle.hub_commands.specs.Ways.{IsRunWithin}
-use Rattle.hub_commands.specs.declared.faults.Fault.{Fault}
-use Rattle.hub_commands.specs.declared.finishes.Day.{Day}
-use Rattle.legal_days.proofs.Cited.{at_place}
-use Rattle.routine_reader.specs.declared.scripts.Script.{Script}
-use Rattle.routine_reader.specs.declared.scripts.WindowText.{WindowText}
-use Rattle.std.proofs.Common.{ap, arith, refl, ◌∙◌}
-use Rattle.std.proofs.lemmas.Option.{slice_get_within}
-use Rattle.std.specs.Prelude.{List, None, Option, Some, [], fold, length, slice_get, suc, zero, ℕ, ◌+◌, ◌∷◌, ◌≡◌}
 
 same_folds : (takes : List (ℕ → ℕ)) (windows : List WindowText) (d n : ℕ) → length takes ≡ length windows
     → ((k : ℕ) (window : WindowText) (taken : ℕ → ℕ) → slice_get windows k ≡ Some window → slice_get takes k ≡ Some taken → taken d ≡ window.probes)

@@ -1,16 +1,10 @@
 -- The counts of a day, window after window: what is published of it.
-use Rattle.day_report.specs.Days.{abort_count, commit_count, is_abort, is_commit}
-use Rattle.history_book.specs.declared.records.WindowRecord.{WindowRecord}
+use Rattle.hub_commands.proofs.Prelude.{Day, HandsBack, IsToldOf, IsToldOfDay, List, Option, Some, WindowRecord, [], abort_count, ap, append-nil, append_assoc, ap₂, arith, as_over, board_line, board_text, commit_count, count_by, counts_behind, counts_each, counts_of, drop, false, get_or, is_abort, is_commit, length, publishings_of, refl, subst, suc, sym, take, true, zero, ℕ, ◌++◌, ◌+◌, ◌-◌, ◌<◌, ◌∙◌, ◌∷◌, ◌≡◌, ◌≤◌}
 use Rattle.hub_commands.proofs.Snocs.{length_more, sum_apart}
-use Rattle.hub_commands.specs.Boards.{IsToldOf, as_over, board_line, board_text, counts_behind, counts_each, counts_of, publishings_of}
-use Rattle.hub_commands.specs.Going.{HandsBack, IsToldOfDay}
 use Rattle.hub_commands.specs.Watched.{IsPublished}
-use Rattle.hub_commands.specs.declared.finishes.Day.{Day}
 use Rattle.status_board.proofs.Cited.{only_over}
 use Rattle.status_board.specs.Publishings.{StartsWith, last_from, last_of, nothing}
 use Rattle.status_board.specs.declared.day_counts.Counts.{Counts}
-use Rattle.std.proofs.Common.{ap, ap₂, append-nil, append_assoc, arith, false, get_or, refl, subst, sym, true, ◌∙◌}
-use Rattle.std.specs.Prelude.{List, Option, Some, [], count_by, drop, length, suc, take, zero, ℕ, ◌+◌, ◌++◌, ◌-◌, ◌<◌, ◌∷◌, ◌≡◌, ◌≤◌}
 
 -- nothing comes of no window
 nothing_yet : nothing ≡ counts_of []

@@ -1,43 +1,21 @@
 -- A day of rooms that begins, goes on and ends, as its calls see it.
-use Rattle.day_report.specs.Days.{head_text, total_text, window_text}
-use Rattle.device_states.specs.Devices.{Shown}
-use Rattle.history_book.specs.Settings.{is_weak}
-use Rattle.history_book.specs.declared.records.WindowRecord.{WindowRecord}
+use Rattle.hub_commands.proofs.Prelude.{All, AreAllPlaced, AreTold, ChunkFault, Err, HasDevicesOf, HasRoomFor, HomeState, IfOk, IsFirstDay, IsRoomDay, IsRoomed, IsSound, IsWrittenSoFar, List, Listed, Mode, None, Ok, Option, Result, RoomGoesOn, RoomNextIs, RoomStopEnds, RoomWindow, RoomsAreLeft, RoomsAreUnderWay, Script, Shown, Some, TellsLines, WindowRecord, WindowText, Windows, [], ap, arith, at_place, false, head_text, is_weak, length, length-map, lines_from, map, plain_device, plain_rooms, plain_script, room_count, rooms_of, rooms_size, slice_get, subst, suc, sym, told_records, total_text, window_text, written, ℕ, ◌++◌, ◌+◌, ◌<◌, ◌∙◌, ◌∷◌, ◌≡◌, ◌≤◌}
 use Rattle.home_types.specs.Limits.{most_devices}
-use Rattle.home_types.specs.Listed.{Listed}
-use Rattle.home_types.specs.declared.modes.Mode.{Mode}
 use Rattle.hub_commands.proofs.RoomDaysLeft.{has_devices, none_played, own_orders, rooms_begun, rooms_left, rooms_played}
 use Rattle.hub_commands.proofs.RoomsUnderWay.{rooms_gone_on}
 use Rattle.hub_commands.proofs.RoomTexts.{lines_are, room_begun, room_finished, room_goes_on, room_head_stopped, room_lines_stopped, room_starved, room_total_stopped, rooms_unbuilt, told_more}
 use Rattle.hub_commands.proofs.RoomedDevices.{are_roomed}
 use Rattle.hub_commands.proofs.Snocs.{length_more}
-use Rattle.hub_commands.specs.Finishes.{written}
 use Rattle.hub_commands.specs.Chunks.{ChunkEnds}
 use Rattle.hub_commands.specs.RoomCalls.{RoomDayEnds}
-use Rattle.hub_commands.specs.RoomDays.{RoomsAreLeft, RoomsAreUnderWay, Windows, room_count, told_records}
-use Rattle.hub_commands.specs.RoomDevices.{AreAllPlaced, HasDevicesOf, HasRoomFor, IsRoomed}
-use Rattle.hub_commands.specs.RoomGoing.{AreTold, IsFirstDay, IsRoomDay, IsWrittenSoFar, RoomGoesOn, RoomNextIs, RoomStopEnds, TellsLines, lines_from}
 use Rattle.hub_commands.specs.RoomPlays.{RoomsWent}
 use Rattle.hub_commands.specs.Statuses.{status_for_fault}
 use Rattle.hub_commands.specs.declared.faults.Fault.TheVariants.{Memory as WantsMemory}
-use Rattle.hub_commands.specs.declared.chunks.ChunkFault.{ChunkFault}
 use Rattle.hub_commands.specs.declared.room_days.RoomDay.{RoomDay}
 use Rattle.hub_commands.specs.declared.room_finishes.RoomFinish.{RoomFinish}
-use Rattle.hub_core.specs.Homes.{HomeState}
-use Rattle.legal_days.proofs.Cited.{at_place}
-use Rattle.room_hubs.proofs.Cited.{rooms_size}
 use Rattle.room_hubs.specs.Merges.{HasOwnOrder, room_order}
-use Rattle.room_hubs.specs.Rooms.{plain_rooms, rooms_of}
 use Rattle.room_hubs.specs.declared.rosters.Rooms.{Rooms}
 use Rattle.room_hubs.specs.ToldWindows.{told_record}
-use Rattle.room_hubs.specs.declared.rosters.RoomWindow.{RoomWindow}
-use Rattle.routine_reader.specs.Scripts.{plain_device, plain_script}
-use Rattle.routine_reader.specs.Sound.{IsSound}
-use Rattle.routine_reader.specs.declared.scripts.Script.{Script}
-use Rattle.routine_reader.specs.declared.scripts.WindowText.{WindowText}
-use Rattle.std.proofs.Common.{All, List, None, Option, Some, [], ap, arith, false, length, map, subst, suc, sym, ℕ, ◌++◌, ◌<◌, ◌∙◌, ◌≡◌, ◌≤◌, ◌∷◌, ◌+◌}
-use Rattle.std.proofs.lemmas.List.{length-map}
-use Rattle.std.specs.Prelude.{Err, IfOk, Ok, Result, slice_get}
 
 module _ {D : Type 0} (earliest latest : ℕ) (shows : D → Shown) (script : Script) (sound : IsSound (plain_script script)) (mode : Mode) (strong : is_weak mode ≡ false) (rooms : Rooms) (are : plain_rooms rooms ≡ rooms_of script) where
   same_rooms : rooms.room_of.items ≡ (rooms_of script).room_of

@@ -1,31 +1,8 @@
 -- What a day of rooms is, from the homes of the rooms.
-use Rattle.device_states.specs.Devices.{Shown}
-use Rattle.home_types.specs.Listed.{Listed}
-use Rattle.home_types.specs.declared.modes.Mode.{Mode}
-use Rattle.history_book.specs.Settings.{is_weak}
+use Rattle.hub_commands.proofs.Prelude.{All, AreAllPlaced, AreNewHomes, HasDevicesOf, HomeState, IsRunWithin, IsSound, List, Listed, Mode, RecordsAreLegal, RoomWindow, RoomsAreLeft, RoomsArePlayed, RoomsAreUnderWay, Script, Shown, Some, Windows, [], arith, at_place, devices_in, false, get_or, is_weak, length, length-map, new_course, own_script, plain_script, records_of, room_count, rooms_of, rooms_size, slice_get, slice_get-get_or, ℕ, ◌<◌, ◌∙◌, ◌≡◌}
 use Rattle.hub_commands.proofs.DaysUnderWay.{no_window, starts}
 use Rattle.hub_commands.proofs.RoomOrders.{each_order_agrees, own_windows}
-use Rattle.hub_commands.specs.Days.{new_course}
-use Rattle.hub_commands.specs.RoomDays.{RoomsAreLeft, RoomsArePlayed, RoomsAreUnderWay, Windows, records_of, room_count}
-use Rattle.hub_commands.specs.RoomDevices.{AreAllPlaced, HasDevicesOf}
-use Rattle.hub_commands.specs.RoomGoing.{AreNewHomes}
-use Rattle.hub_commands.specs.Ways.{IsRunWithin}
-use Rattle.hub_core.specs.Homes.{HomeState}
-use Rattle.legal_days.proofs.Cited.{at_place}
-use Rattle.legal_days.specs.LegalDays.{RecordsAreLegal}
-use Rattle.room_hubs.proofs.Cited.{rooms_size}
 use Rattle.room_hubs.specs.Merges.{HasOwnOrder, room_order}
-use Rattle.room_hubs.specs.RoomScripts.{own_script}
-use Rattle.room_hubs.specs.Rooms.{rooms_of}
-use Rattle.room_hubs.specs.Splits.{devices_in}
-use Rattle.room_hubs.specs.declared.rosters.RoomWindow.{RoomWindow}
-use Rattle.routine_reader.specs.Scripts.{plain_script}
-use Rattle.routine_reader.specs.Sound.{IsSound}
-use Rattle.routine_reader.specs.declared.scripts.Script.{Script}
-use Rattle.std.proofs.Common.{All, List, Some, [], arith, false, get_or, length, ℕ, ◌<◌, ◌∙◌, ◌≡◌}
-use Rattle.std.proofs.lemmas.List.{length-map}
-use Rattle.std.proofs.lemmas.Option.{slice_get-get_or}
-use Rattle.std.specs.Prelude.{slice_get}
 
 module _ {D : Type 0} (earliest latest : ℕ) (shows : D → Shown) (script : Script) (sound : IsSound (plain_script script)) (mode : Mode) (strong : is_weak mode ≡ false) (homes : List (HomeState D)) (windows : Windows)
     (day : RoomsAreUnderWay earliest latest shows script mode homes windows) where

@@ -4,39 +4,17 @@ use Rattle.command_rules.specs.Rosters.{Run, is_run}
 use Rattle.command_rules.specs.Serial.{SerialRun, serial_execution}
 use Rattle.history_book.specs.Histories.{executed, reading}
 use Rattle.history_book.specs.Readings.{is_committed}
-use Rattle.history_book.specs.Settings.{Setting, is_weak}
-use Rattle.history_book.specs.declared.records.WindowRecord.{WindowRecord}
-use Rattle.home_types.specs.Listed.{Listed}
+use Rattle.hub_commands.proofs.Prelude.{AgreesWithRooms, All, AreSplit, Bool, EachOrderAgrees, IsSound, List, Listed, Mode, None, Option, RecordsAreLegal, RoomWindow, Script, Setting, Some, Stand, WindowRecord, Windows, [], ap, arith, at_place, common_steps, count_by, false, get_or, get_or-map, get_or_from_slice_get, get_or_past, home_executed, home_of_rooms, if◌then◌else◌, inl, inr, is_some, is_weak, joined_is, kinds_of, length, length-map, list_any, map, none_passes, option_map, own_is, own_kinds_are, own_runs_are, own_script, own_start_is, parts, plain_script, range_with_len, records_of, refl, replicate, room_at, room_count, rooms_home_before, rooms_of, rooms_size, runs_in, script_runs, setting_of, slice_get, slice_get-get_or, slice_get-map, slice_get_cases, slice_get_within, slice_index_or, split_is, split_parts, state_after, subst, suc, sym, true, unwrap_or, whole, zero, ℕ, ◌+◌, ◌<◌, ◌==◌, ◌∙◌, ◌∷◌, ◌≡◌, ◌≤◌}
 use Rattle.home_types.specs.declared.items.Item.TheVariants.{Back, Failed, Ran}
 use Rattle.home_types.specs.declared.items.Item.{Item}
-use Rattle.home_types.specs.declared.modes.Mode.{Mode}
 use Rattle.home_types.specs.HomeStates.{stand_at}
-use Rattle.home_types.specs.declared.worlds.Stand.{Stand}
 use Rattle.hub_commands.proofs.MergedLists.{HaveRoom, answered, each_item, record_at, same_order}
 use Rattle.hub_commands.proofs.OwnItems.{is_stray, none_strays}
-use Rattle.hub_commands.specs.RoomDays.{AgreesWithRooms, AreSplit, EachOrderAgrees, Windows, home_executed, records_of, room_count, rooms_home_before}
-use Rattle.legal_days.proofs.Cited.{at_place}
-use Rattle.legal_days.specs.LegalDays.{RecordsAreLegal, setting_of, state_after}
 use Rattle.legal_days.specs.LegalWindows.{IsLegalWindow, IsSeriallyLegal, IsWeaklyLegal, history_of}
-use Rattle.room_hubs.proofs.Cited.{home_of_rooms, joined_is, none_passes, own_is, own_kinds_are, own_runs_are, own_start_is, parts, rooms_size, split_is, split_parts, whole}
 use Rattle.room_hubs.specs.Merges.{HasOwnOrder, InStep, IsMerge, Merge, PartHome, RoomOrders, answers_of, home_order, joined_merge, no_room, order_of_room, own_order, room_in, room_order}
 use Rattle.room_hubs.specs.Numbers.{IsOwnDevice, IsOwnItem, IsOwnRun, Room, home_device, home_run, plain_room, room_home, room_kinds}
-use Rattle.room_hubs.specs.RoomScripts.{own_script}
-use Rattle.room_hubs.specs.Rooms.{rooms_of}
-use Rattle.room_hubs.specs.Splits.{room_at, runs_in}
 use Rattle.room_hubs.specs.ToldWindows.{RoomHome, joined_home, last_of_room}
-use Rattle.room_hubs.specs.declared.rosters.RoomWindow.{RoomWindow}
-use Rattle.routine_reader.specs.Rosters.{kinds_of, script_runs}
-use Rattle.routine_reader.specs.Scripts.{plain_script}
-use Rattle.routine_reader.specs.Sound.{IsSound}
-use Rattle.routine_reader.specs.declared.scripts.Script.{Script}
-use Rattle.std.proofs.Common.{All, Bool, List, None, Option, Some, [], ap, arith, false, get_or, inl, inr, length, map, option_map, refl, subst, suc, sym, true, zero, ℕ, ◌+◌, ◌<◌, ◌∙◌, ◌≡◌, ◌≤◌, ◌∷◌}
-use Rattle.std.proofs.lemmas.Grind.{common_steps}
 use Rattle.std.proofs.lemmas.List.FromFn.{get_or-range_with_len, length-range_with_len}
-use Rattle.std.proofs.lemmas.List.{get_or-map, get_or_past, length-map}
-use Rattle.std.proofs.lemmas.Option.{get_or_from_slice_get, slice_get-get_or, slice_get-map, slice_get_cases, slice_get_within}
-use Rattle.std.specs.List.{list_any, range_with_len}
-use Rattle.std.specs.Prelude.{count_by, if◌then◌else◌, is_some, replicate, slice_get, slice_index_or, unwrap_or, ◌==◌}
 
 -- a legal window is serially legal outside the weak model
 pub serially : (w : Setting) (closed : WindowRecord) → is_weak w.mode ≡ false → IsLegalWindow w closed → IsSeriallyLegal w closed

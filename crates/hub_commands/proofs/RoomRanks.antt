@@ -1,19 +1,9 @@
 -- The devices of the rooms, put in the order of the script from the last one on.
-use Rattle.home_types.specs.Listed.{Listed}
+use Rattle.hub_commands.proofs.Prelude.{AreAllPlaced, Bool, HasDevicesOf, HomeState, IsRoomed, List, Listed, Some, [], all_numbers, ap, append_assoc, arith, at_place, common_steps, device_room, devices_in, drop, false, filter, filtered, get_or, get_or-set_same, if◌then◌else◌, inl, inr, length, length-append, length-map, length-set, length-take-le, map, next_number, option_map, range_with_len, refl, reverse, reverse-append, slice_get, slice_get-get_or, slice_get-map, slice_get_within, slice_index_or, slice_set, suc, sym, take, take-append-drop, take_all, take_more, true, zero, ℕ, ◌++◌, ◌+◌, ◌<◌, ◌==◌, ◌∙◌, ◌∷◌, ◌≡◌, ◌≢◌, ◌≤◌, ◌⊎◌}
 use Rattle.hub_commands.proofs.Snocs.{snoc_front}
-use Rattle.hub_commands.specs.RoomDevices.{AreAllPlaced, HasDevicesOf, IsRoomed}
-use Rattle.hub_core.specs.Homes.{HomeState}
-use Rattle.legal_days.proofs.Cited.{at_place}
-use Rattle.room_hubs.proofs.Cited.{all_numbers, filtered, next_number}
-use Rattle.room_hubs.specs.Splits.{device_room, devices_in}
-use Rattle.std.proofs.Common.{Bool, List, Some, [], ap, append_assoc, arith, false, filter, get_or, inl, inr, length, map, option_map, refl, reverse, suc, sym, take, take-append-drop, true, zero, ℕ, ◌+◌, ◌++◌, ◌<◌, ◌∙◌, ◌≡◌, ◌≢◌, ◌≤◌, ◌∷◌, ◌⊎◌}
 use Rattle.std.proofs.lemmas.Bool.{cases_eq}
-use Rattle.std.proofs.lemmas.Grind.{common_steps}
 use Rattle.std.proofs.lemmas.List.Elements.{filter-append}
-use Rattle.std.proofs.lemmas.List.{append-nil, get_or-set_same, length-append, length-set, length-take-le, length-map, reverse-append, take_all, take_more}
-use Rattle.std.proofs.lemmas.Option.{slice_get-get_or, slice_get-map, slice_get_within}
-use Rattle.std.specs.List.{range_with_len}
-use Rattle.std.specs.Prelude.{drop, if◌then◌else◌, slice_get, slice_index_or, slice_set, ◌==◌}
+use Rattle.std.proofs.lemmas.List.{append-nil}
 
 equal_self : (a : ℕ) → (a == a) ≡ true
 equal_self a = grind (arith, common_steps)

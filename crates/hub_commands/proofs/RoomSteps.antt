@@ -1,18 +1,9 @@
 -- The loops over the rooms of a window, step by step.
-use Rattle.device_states.specs.Devices.{Shown}
-use Rattle.home_types.specs.Listed.{Listed}
-use Rattle.home_types.specs.declared.modes.Mode.{Mode}
+use Rattle.hub_commands.proofs.Prelude.{HomeIsKept, HomeState, List, Listed, MayOpen, Mode, None, Option, RoomWindow, Shown, Some, [], ap, append-nil, append_assoc, arith, false, inl, inr, length, length-append, length-reverse, map, map-append, refl, reverse, reverse-append, reverse-reverse, setting_for, slice_get, snoc_get, subst, suc, sym, true, zero, ℕ, ◌++◌, ◌+◌, ◌<◌, ◌∙◌, ◌∷◌, ◌≡◌, ◌≤◌}
 use Rattle.hub_commands.specs.RoomPlays.{AreOpened, AreTakenApart, IsRoomOpened, MayAllOpen}
-use Rattle.hub_core.specs.Homes.{HomeIsKept, HomeState, setting_for}
-use Rattle.hub_core.specs.Openings.{MayOpen}
 use Rattle.hub_threads.specs.declared.rooms.RoomDone.{RoomDone}
 use Rattle.hub_threads.specs.declared.rooms.RoomHub.{RoomHub}
-use Rattle.home_types.proofs.Cited.{snoc_get}
 use Rattle.room_hubs.specs.declared.rosters.RoomRoster.{RoomRoster}
-use Rattle.room_hubs.specs.declared.rosters.RoomWindow.{RoomWindow}
-use Rattle.std.proofs.Common.{List, None, Option, Some, [], ap, append-nil, append_assoc, arith, false, inl, inr, length, map, refl, reverse, subst, suc, sym, true, zero, ℕ, ◌+◌, ◌++◌, ◌<◌, ◌∙◌, ◌≡◌, ◌≤◌, ◌∷◌}
-use Rattle.std.proofs.lemmas.List.{length-append, length-reverse, map-append, reverse-append, reverse-reverse}
-use Rattle.std.specs.Prelude.{slice_get}
 
 -- an item at the end stands at the head of the list turned round
 turned_snoc : {X : Type 0} (xs : List X) (x : X) → reverse (xs ++ x ∷ []) ≡ x ∷ reverse xs

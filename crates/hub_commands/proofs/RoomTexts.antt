@@ -1,38 +1,19 @@
 -- The text of a day of rooms, chunk after chunk, and how the day ends where a chunk is not written.
-use Rattle.command_words.specs.declared.command_lines.Options.{Options}
+use Rattle.hub_commands.proofs.Prelude.{AppendsFirst, AreAllPlaced, AreTold, Bool, ChunkFault, Err, Fault, HomeState, IfOk, IsWrittenAsClosed, IsWrittenSoFar, Lines, List, Listed, Mode, None, Ok, Option, Options, Result, RoomStopEnds, RoomWindow, RoomsAreLeft, RoomsArePlayed, Script, Shown, Some, WindowRecord, Windows, [], abort_count, ap, append-nil, append_assoc, arith, commit_count, count_by, counts_line, false, head_text, if◌then◌else◌, is_abort, is_commit, length, length-map, lines_from, map, map-append, new_course, plain, refl, rooms_of, slice_get, subst, sum_by, sym, take, text_due, text_so_far, told_records, total_text, window_lines, window_text, written, ℕ, ◌++◌, ◌+◌, ◌==◌, ◌∙◌, ◌∷◌, ◌≡◌}
 use Rattle.day_clock.specs.Sinks.{AppendsPart}
-use Rattle.day_report.specs.Days.{abort_count, commit_count, counts_line, head_text, is_abort, is_commit, total_text, window_lines, window_text}
 use Rattle.day_report.specs.Lines.{home_line, order_line, run_lines, window_line}
-use Rattle.device_states.specs.Devices.{Shown}
 use Rattle.history_book.specs.declared.entries.Entry.{Entry}
 use Rattle.history_book.specs.declared.entries.Kept.{Kept}
-use Rattle.history_book.specs.declared.records.WindowRecord.{WindowRecord}
-use Rattle.home_types.specs.Listed.{Listed}
-use Rattle.home_types.specs.declared.modes.Mode.{Mode}
 use Rattle.hub_commands.proofs.PlayedDays.{LeadWith, all_lead, keeps_same, lead_whole, lead_written, none_leads, rest_lead, said}
 use Rattle.hub_commands.proofs.Texts.{appends_keeps, appends_more, due_whole, keeps_appends, part_more, part_wider, text_more, text_starts, text_whole, whole_first}
-use Rattle.hub_commands.specs.Days.{new_course, plain, text_due, text_so_far}
-use Rattle.hub_commands.specs.Finishes.{AppendsFirst, IsWrittenAsClosed, written}
 use Rattle.hub_commands.specs.Chunks.{ChunkEnds}
 use Rattle.hub_commands.specs.RoomCalls.{RoomDayEnds, RoomDayIsCut, RoomDayIsStarved, RoomDayIsWhole, RoomsAreWrittenAsClosed}
-use Rattle.hub_commands.specs.RoomDays.{RoomsAreLeft, RoomsArePlayed, Windows, told_records}
-use Rattle.hub_commands.specs.RoomDevices.{AreAllPlaced}
-use Rattle.hub_commands.specs.RoomGoing.{AreTold, IsWrittenSoFar, Lines, RoomStopEnds, lines_from}
 use Rattle.hub_commands.specs.declared.faults.Fault.TheVariants.{Memory as WantsMemory}
-use Rattle.hub_commands.specs.declared.faults.Fault.{Fault}
 use Rattle.hub_commands.specs.declared.chunks.ChunkFault.TheVariants.{Memory, Sink}
-use Rattle.hub_commands.specs.declared.chunks.ChunkFault.{ChunkFault}
-use Rattle.hub_core.specs.Homes.{HomeState}
-use Rattle.room_hubs.specs.Rooms.{rooms_of}
 use Rattle.room_hubs.specs.ToldWindows.{IsToldOfRooms, told_record}
-use Rattle.room_hubs.specs.declared.rosters.RoomWindow.{RoomWindow}
-use Rattle.routine_reader.specs.declared.scripts.Script.{Script}
-use Rattle.std.proofs.Common.{ap, append-nil, append_assoc, arith, length, map, refl, subst, sym, ◌∙◌}
-use Rattle.std.proofs.lemmas.List.{length-map, map-append}
 use Rattle.std.proofs.lemmas.List.Sums.{sum_by-cons}
 use Rattle.std.specs.Io.KnownBytes.{Appends}
 use Rattle.std.specs.Option.{option_map_or}
-use Rattle.std.specs.Prelude.{Bool, Err, IfOk, List, None, Ok, Option, Result, Some, [], count_by, false, if◌then◌else◌, slice_get, sum_by, take, ℕ, ◌+◌, ◌++◌, ◌==◌, ◌∷◌, ◌≡◌}
 
 abbrev pub untraced : Mode → Options
 untraced mode = record { mode = mode; trace = false }

@@ -1,18 +1,6 @@
 -- The rooms of the devices of a script: each has one of the names.
-use Rattle.home_types.proofs.Cited.{snoc_get}
-use Rattle.hub_commands.specs.RoomDays.{room_count}
-use Rattle.hub_commands.specs.RoomDevices.{IsRoomed}
-use Rattle.room_hubs.proofs.Cited.{any_is}
-use Rattle.room_hubs.specs.Rooms.{PlainRooms, no_rooms, room_name, rooms_of, with_device, with_room}
-use Rattle.room_hubs.specs.Splits.{device_room}
+use Rattle.hub_commands.proofs.Prelude.{Bool, IsRoomed, List, PlainRooms, Script, Some, [], any_is, arith, common_steps, cond, device_room, false, fold, if◌then◌else◌, inl, inr, length, length-append, map, nat_lt, no_rooms, not, position_or_len, refl, room_count, room_name, rooms_of, slice_get, slice_get-get_or, snoc_get, subst, suc, sym, true, with_device, with_room, ℕ, ◌++◌, ◌+◌, ◌<◌, ◌∙◌, ◌∷◌, ◌≡◌, ◌≤◌}
 use Rattle.routine_reader.specs.Names.{is_among}
-use Rattle.routine_reader.specs.declared.scripts.Script.{Script}
-use Rattle.std.proofs.Common.{Bool, List, Some, [], arith, false, fold, inl, inr, length, map, refl, subst, suc, sym, true, ℕ, ◌+◌, ◌++◌, ◌<◌, ◌∙◌, ◌≡◌, ◌≤◌, ◌∷◌}
-use Rattle.std.proofs.lemmas.Grind.{common_steps}
-use Rattle.std.proofs.lemmas.List.{length-append}
-use Rattle.std.proofs.lemmas.Option.{slice_get-get_or}
-use Rattle.std.specs.List.{position_or_len}
-use Rattle.std.specs.Prelude.{cond, if◌then◌else◌, nat_lt, not, slice_get}
 use Rattle.std.specs.Str.{bytes_eq}
 
 below : (a b : ℕ) → nat_lt a b ≡ true → a < b

@@ -1,49 +1,23 @@
 -- The rooms of a day under way: their next window may be opened, and the day goes on by it.
 use Rattle.device_gate.specs.Places.{AreNumbered}
-use Rattle.device_states.specs.Devices.{Shown}
-use Rattle.home_types.proofs.Cited.{snoc_get}
+use Rattle.hub_commands.proofs.Prelude.{All, DayIsUnderWay, HomeIsKept, HomeState, IsRunWithin, IsSound, IsSoundWindow, IsTrue, Kind, List, Listed, MayOpen, Mode, Ok, Option, OwnRunsAreSound, RoomWindow, RoomsAreUnderWay, Script, Shown, Some, WindowText, Windows, [], ap, arith, at_place, cons_option, device_room, devices_in, filtered, get_or, get_or-map, get_or_from_slice_get, inl, inr, is_mode, kinds_of, length, length-append, length-map, map, names_values_of, nat_lt, new_course, option_map, own_kinds_are, own_runs_are, own_runs_sound, own_script, own_window, plain_device, plain_routine, plain_script, plain_window, range_with_len, records_of, refl, room_at, room_count, rooms_of, rooms_size, script_runs, script_split, setting_for, setting_on, slice_get, slice_get-get_or, slice_get-map, slice_get_within, snoc_get, split_is, split_parts, subst, suc, suits_device, sym, true, ℕ, ◌++◌, ◌+◌, ◌<◌, ◌==◌, ◌∙◌, ◌∷◌, ◌≡◌, ◌≤◌}
 use Rattle.home_types.specs.Kinds.{kind_at}
-use Rattle.home_types.specs.Listed.{Listed}
 use Rattle.home_types.specs.declared.commands.Job.TheVariants.{Check, Load, Set, Store}
 use Rattle.home_types.specs.declared.commands.Job.{Job}
-use Rattle.home_types.specs.declared.kinds.Kind.{Kind}
-use Rattle.home_types.specs.declared.modes.Mode.{Mode}
 use Rattle.hub_commands.proofs.MergedLists.{HaveRoom, records_count}
 use Rattle.hub_commands.proofs.NextWindows.{next_gone}
 use Rattle.hub_commands.proofs.WorkedWays.{rounds_at, run_as}
-use Rattle.hub_commands.specs.Days.{DayIsUnderWay, new_course}
-use Rattle.hub_commands.specs.Played.{setting_on}
-use Rattle.hub_commands.specs.RoomDays.{RoomsAreUnderWay, Windows, records_of, room_count}
 use Rattle.hub_commands.specs.RoomPlays.{AreOpened, AreTakenApart, MayAllOpen, RoomWent, RoomsWent}
-use Rattle.hub_commands.specs.Ways.{IsRunWithin}
 use Rattle.hub_core.specs.HubCalls.{IsOpened}
-use Rattle.hub_core.specs.Homes.{HomeIsKept, HomeState, setting_for}
-use Rattle.hub_core.specs.Openings.{MayOpen, is_mode, names_values_of}
 use Rattle.hub_threads.specs.WorkedRooms.{AreRoomsWorked, IsReady}
 use Rattle.hub_threads.specs.declared.rooms.RoomDone.{RoomDone}
 use Rattle.hub_threads.specs.declared.rooms.RoomHub.{RoomHub}
-use Rattle.legal_days.proofs.Cited.{at_place}
-use Rattle.room_hubs.proofs.Cited.{OwnRunsAreSound, filtered, own_kinds_are, own_runs_are, own_runs_sound, rooms_size, split_is, split_parts}
 use Rattle.room_hubs.specs.Numbers.{Room, plain_room, room_kinds}
-use Rattle.room_hubs.specs.RoomScripts.{own_script, own_window}
-use Rattle.room_hubs.specs.Rooms.{rooms_of}
-use Rattle.room_hubs.specs.Splits.{device_room, devices_in, room_at, script_split}
 use Rattle.room_hubs.specs.declared.rosters.RoomRoster.{RoomRoster}
-use Rattle.room_hubs.specs.declared.rosters.RoomWindow.{RoomWindow}
-use Rattle.routine_reader.specs.Rosters.{kinds_of, script_runs}
-use Rattle.routine_reader.specs.Scripts.{plain_device, plain_routine, plain_script, plain_window}
-use Rattle.routine_reader.specs.Sound.{IsSound, IsSoundWindow, suits_device}
-use Rattle.routine_reader.specs.declared.scripts.Script.{Script}
-use Rattle.routine_reader.specs.declared.scripts.WindowText.{WindowText}
 use Rattle.run_replay.proofs.Cited.{fresh_where}
-use Rattle.std.proofs.Common.{All, List, Ok, Option, Some, [], ap, arith, get_or, inl, inr, length, map, option_map, refl, subst, suc, sym, true, ℕ, ◌+◌, ◌++◌, ◌<◌, ◌∙◌, ◌≡◌, ◌≤◌, ◌∷◌}
 use Rattle.std.proofs.lemmas.Bool.{and_from, lt-ltb}
 use Rattle.std.proofs.lemmas.List.Elements.{All-get_or, filter_map-append}
 use Rattle.std.proofs.lemmas.List.FromFn.{get_or-range_with_len, length-range_with_len}
-use Rattle.std.proofs.lemmas.List.{get_or-map, length-append, length-map}
-use Rattle.std.proofs.lemmas.Option.{get_or_from_slice_get, slice_get-get_or, slice_get-map, slice_get_within}
-use Rattle.std.specs.List.{cons_option, range_with_len}
-use Rattle.std.specs.Prelude.{IsTrue, nat_lt, slice_get, ◌==◌}
 
 nothing_more : (k : ℕ) → 0 + k ≡ k
 nothing_more k = omega arith

@@ -1,6 +1,5 @@
 -- Lists with one item more.
-use Rattle.std.proofs.Common.{ap, arith, refl, sym, ◌∙◌}
-use Rattle.std.specs.Prelude.{List, [], fold, length, suc, sum_by, ℕ, ◌+◌, ◌++◌, ◌∷◌, ◌≡◌}
+use Rattle.hub_commands.proofs.Prelude.{List, [], ap, arith, fold, length, refl, suc, sum_by, sym, ℕ, ◌++◌, ◌+◌, ◌∙◌, ◌∷◌, ◌≡◌}
 
 -- lists with one item more each are the same before it
 pub snoc_front : {X : Type 0} (xs ys : List X) (x y : X) → xs ++ x ∷ [] ≡ ys ++ y ∷ [] → xs ≡ ys

@@ -1,20 +1,9 @@
 -- The text of a day, chunk after chunk, and what the sink got of it.
 use Rattle.day_clock.specs.Sinks.{AppendsPart}
 use Rattle.day_report.proofs.Cited.{enumerate_from-append}
-use Rattle.day_report.specs.Days.{day_text_from, head_text, total_text, window_text, window_texts_from}
-use Rattle.history_book.specs.declared.records.WindowRecord.{WindowRecord}
-use Rattle.home_types.specs.declared.modes.Mode.{Mode}
-use Rattle.hub_commands.specs.Boards.{board_text}
-use Rattle.hub_commands.specs.Days.{DayCourse, boarded, plain, record_text_on, script_of, text_due, text_due_on, text_on, text_so_far}
-use Rattle.hub_commands.specs.Finishes.{AppendsFirst}
-use Rattle.routine_reader.specs.declared.scripts.Script.{Script}
-use Rattle.std.proofs.Common.{ap, append-nil, append_assoc, arith, refl, subst, sym, take-append-drop, ◌∙◌}
+use Rattle.hub_commands.proofs.Prelude.{AppendsFirst, Bool, DayCourse, List, Mode, None, Option, Script, Some, WindowRecord, [], ap, append-nil, append_assoc, arith, board_text, boarded, common_steps, day_text_from, drop, enumerate_from, false, flat_map, flat_map_more, head_text, if◌then◌else◌, length, length-append, plain, record_text_on, refl, script_of, subst, suc, sym, take, take-append-drop, text_due, text_due_on, text_on, text_so_far, total_text, true, window_text, window_texts_from, zero, ℕ, ◌++◌, ◌+◌, ◌<◌, ◌==◌, ◌∙◌, ◌∷◌, ◌≡◌}
 use Rattle.std.proofs.Math.Seq.{take-append_seam}
-use Rattle.std.proofs.lemmas.Grind.{common_steps}
-use Rattle.std.proofs.lemmas.List.{flat_map_more, length-append}
 use Rattle.std.specs.Io.KnownBytes.{Appends, Keeps}
-use Rattle.std.specs.List.{enumerate_from, flat_map}
-use Rattle.std.specs.Prelude.{Bool, List, None, Option, Some, [], drop, false, if◌then◌else◌, length, suc, take, true, zero, ℕ, ◌+◌, ◌++◌, ◌<◌, ◌==◌, ◌∷◌, ◌≡◌}
 
 take_behind : {X : Type 0} (xs ys : List X) (n : ℕ) → take (length xs + n) (xs ++ ys) ≡ xs ++ take n ys
 take_behind [] ys n = let none : 0 + n ≡ n = omega (arith) in ap (λ k. take k ys) none

@@ -1,19 +1,7 @@
 -- The day of a trial.
-use Rattle.command_words.specs.declared.command_lines.Options.{Options}
-use Rattle.device_states.specs.Devices.{Shown}
-use Rattle.hub_commands.specs.Days.{plain}
-use Rattle.hub_commands.specs.Finishes.{DayEnds, DayIsWhole, Writes}
-use Rattle.hub_commands.specs.Trials.{HasJudged, IsTrialDay, TrialEnds, finding, trial_mode}
-use Rattle.hub_commands.specs.Ways.{IsReplayOf}
-use Rattle.hub_commands.specs.declared.faults.Fault.TheVariants.{Check, Cross, Damaged, Disk, Memory, Read, Script as Refuses, Words, Write}
-use Rattle.hub_commands.specs.declared.faults.Fault.{Fault}
-use Rattle.hub_commands.specs.declared.finishes.Day.{Day}
-use Rattle.legal_days.specs.LegalDays.{RecordsAreLegal}
+use Rattle.hub_commands.proofs.Prelude.{Check, Cross, Damaged, Day, DayEnds, DayIsWhole, Disk, Fault, HasJudged, IsReplayOf, IsTrialDay, Memory, None, Option, Options, Read, RecordsAreLegal, Script, Shown, Some, TrialEnds, Words, Write, Writes, false, finding, inr, plain, plain_script, refl, subst, sym, trial_mode, ℕ, ◌∙◌, ◌≡◌}
+use Rattle.hub_commands.specs.declared.faults.Fault.TheVariants.{Script as Refuses}
 use Rattle.order_checker.specs.declared.verdicts.Verdict.TheVariants.{Agrees}
-use Rattle.routine_reader.specs.Scripts.{plain_script}
-use Rattle.routine_reader.specs.declared.scripts.Script.{Script}
-use Rattle.std.proofs.Common.{inr, refl, subst, sym, ◌∙◌}
-use Rattle.std.specs.Prelude.{None, Option, Some, false, ℕ, ◌≡◌}
 use Rattle.trial_scripts.specs.TrialScripts.{trial_script}
 
 -- what is true of the day that was handed back is true of this one

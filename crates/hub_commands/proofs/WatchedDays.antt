@@ -1,26 +1,13 @@
 -- A day that ended, and the line of a board behind it.
-use Rattle.command_words.specs.declared.command_lines.Options.{Options}
+use Rattle.hub_commands.proofs.Prelude.{AppendsFirst, Check, Cross, Damaged, Day, DayEnds, DayIsWhole, Disk, Fault, IsCut, IsStarved, IsWrittenAsClosed, List, Listed, Memory, None, Option, Options, Read, Script, Shown, Some, WindowRecord, WindowWay, Words, Write, Writes, [], ap, append-nil, append_assoc, arith, board_text, boarded, day_text, new_course, option_map, plain, refl, subst, sym, take, text_due, text_so_far, total_text, written, ℕ, ◌++◌, ◌∙◌, ◌≡◌}
 use Rattle.day_clock.specs.Sinks.{AppendsPart}
-use Rattle.day_report.specs.Days.{day_text, total_text}
-use Rattle.device_states.specs.Devices.{Shown}
-use Rattle.history_book.specs.declared.records.WindowRecord.{WindowRecord}
-use Rattle.home_types.specs.Listed.{Listed}
 use Rattle.hub_commands.proofs.PlayedDays.{all_lead, keeps_same, lead_written, unbuilt}
 use Rattle.hub_commands.proofs.Texts.{appends_keeps, appends_more, board_due, board_there, due_boarded, due_whole, first_wider, part_more, part_wider, text_whole, whole_first}
-use Rattle.hub_commands.specs.Boards.{board_text}
-use Rattle.hub_commands.specs.Days.{boarded, new_course, plain, text_due, text_so_far}
-use Rattle.hub_commands.specs.Finishes.{AppendsFirst, DayEnds, DayIsWhole, IsCut, IsStarved, IsWrittenAsClosed, Writes, written}
 use Rattle.hub_commands.specs.LastLines.{LineEnds, LineIsWritten}
 use Rattle.hub_commands.specs.Watched.{IsPublished}
-use Rattle.hub_commands.specs.Ways.{WindowWay}
-use Rattle.hub_commands.specs.declared.faults.Fault.TheVariants.{Check, Cross, Damaged, Disk, Memory, Read, Script as Refuses, Words, Write}
-use Rattle.hub_commands.specs.declared.faults.Fault.{Fault}
-use Rattle.hub_commands.specs.declared.finishes.Day.{Day}
-use Rattle.routine_reader.specs.declared.scripts.Script.{Script}
+use Rattle.hub_commands.specs.declared.faults.Fault.TheVariants.{Script as Refuses}
 use Rattle.status_board.specs.declared.day_counts.Counts.{Counts}
-use Rattle.std.proofs.Common.{ap, append-nil, append_assoc, arith, refl, subst, sym, ◌∙◌}
 use Rattle.std.specs.Io.KnownBytes.{Appends, Keeps}
-use Rattle.std.specs.Prelude.{List, None, Option, Some, [], option_map, take, ℕ, ◌++◌, ◌≡◌}
 
 module _ {D : Type 0} (works : WindowWay) (shows : D → Shown) (script : Script) (options : Options) (held mid holds : Option (List ℕ)) (f f_mid f_after : ℕ) where
   -- what was written as it closed is so still

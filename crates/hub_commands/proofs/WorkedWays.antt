@@ -1,19 +1,10 @@
 -- A window that was replayed, or run by threads, is worked in that way.
-use Rattle.device_states.specs.Devices.{Shown}
-use Rattle.history_book.specs.declared.records.WindowRecord.{WindowRecord}
-use Rattle.history_book.specs.Settings.{is_device}
-use Rattle.hub_commands.specs.Played.{IsWorkedAs}
-use Rattle.hub_commands.specs.Ways.{IsReplayOf, IsRunWithin}
-use Rattle.hub_core.specs.Homes.{HomeState}
+use Rattle.hub_commands.proofs.Prelude.{HomeState, IsReplayOf, IsRunWithin, IsWorkedAs, List, Shown, WindowRecord, WindowText, ap, arith, common_steps, if◌then◌else◌, is_device, length, subst, true, ℕ, ◌<◌, ◌∙◌, ◌≡◌, ◌≤◌}
 use Rattle.hub_core.specs.OpenHubs.{OpenHub, configuration_of}
 use Rattle.hub_core.specs.Steps.{opened}
 use Rattle.hub_core.specs.WindowWays.{WindowIsWorked}
 use Rattle.hub_threads.specs.WorkedWindows.{IsRunBy, IsWorked}
-use Rattle.routine_reader.specs.declared.scripts.WindowText.{WindowText}
 use Rattle.run_replay.specs.ReplayedWindows.{IsReplayBy, IsReplayed}
-use Rattle.std.proofs.Common.{ap, arith, subst, ◌∙◌}
-use Rattle.std.proofs.lemmas.Grind.{common_steps}
-use Rattle.std.specs.Prelude.{List, if◌then◌else◌, length, true, ℕ, ◌<◌, ◌≡◌, ◌≤◌}
 
 -- a hub in which nothing was done yet has all its probes
 pub rounds_at : {D : Type 0} (hub : OpenHub D) (rounds : ℕ) → configuration_of hub ≡ opened hub.setting hub.rounds → hub.rounds ≡ rounds

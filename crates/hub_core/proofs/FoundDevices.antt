@@ -1,15 +1,6 @@
 -- A home that is told where a device was found, or that it is lost, is kept.
-use Rattle.device_states.specs.Devices.{Shown}
-use Rattle.home_types.specs.HomeStates.{stand_at}
-use Rattle.home_types.specs.Kinds.{has_value, kind_at}
-use Rattle.home_types.specs.declared.worlds.Stand.{Stand}
-use Rattle.window_devices.proofs.Cited.{get_set}
-use Rattle.hub_core.specs.Homes.{CountsAreLow, HomeIsKept, HomeState}
+use Rattle.hub_core.proofs.Prelude.{CountsAreLow, HomeIsKept, HomeState, IsTrue, List, Shown, Some, Stand, [], ap, arith, false, get_set, has_value, inl, inr, kind_at, length, length-set, refl, same_Some, slice_get, slice_set, stand_at, subst, suc, sym, true, zero, ℕ, ◌<◌, ◌∙◌, ◌∷◌, ◌≡◌, ◌≢◌, ◌⊎◌}
 use Rattle.hub_core.specs.Restandings.{lost, restood}
-use Rattle.std.proofs.Common.{ap, arith, inl, inr, refl, subst, sym, ◌∙◌, ◌⊎◌}
-use Rattle.std.proofs.lemmas.List.{length-set}
-use Rattle.std.proofs.lemmas.Option.{same_Some}
-use Rattle.std.specs.Prelude.{IsTrue, List, Some, [], length, slice_get, slice_set, suc, false, true, zero, ℕ, ◌<◌, ◌∷◌, ◌≡◌, ◌≢◌}
 
 -- how a device stands after one was written
 stand_set : (world : List Stand) (d e : ℕ) (s : Stand) → d < length world

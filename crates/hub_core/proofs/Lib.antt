@@ -1,3 +1,4 @@
+mod Prelude
 mod steps
 mod windows
 mod kept

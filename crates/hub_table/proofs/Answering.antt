@@ -1,21 +1,11 @@
 -- An answer that is not refused is one to the call for which the device is out.
-use Rattle.device_gate.specs.Calls.{may_tell}
-use Rattle.device_gate.specs.Grips.{Gripped}
-use Rattle.device_gate.specs.Places.{IsKept}
-use Rattle.device_gate.specs.declared.gates.Place.{Place}
+use Rattle.hub_table.proofs.Prelude.{Bool, Gripped, GripsAreHeld, IsKept, List, None, Option, Place, Ready, Slip, SlipAndTask, Some, Task, ap, arith, false, if◌then◌else◌, lent_in_place, may_tell, refl, refusal, slice_get, sym, true, unfit_for, ℕ, ◌==◌, ◌∙◌, ◌≡◌}
 use Rattle.device_gate.specs.declared.grips.Done.{Done}
-use Rattle.device_gate.specs.declared.grips.Ready.{Ready}
-use Rattle.device_gate.specs.declared.slips.Slip.{Slip}
-use Rattle.device_gate.specs.declared.slips.Task.{Task}
 use Rattle.device_gate.specs.declared.slips.Told.{Told}
-use Rattle.hub_table.specs.Answers.{refusal, unfit_for}
 use Rattle.hub_table.proofs.Holding.{held_kept}
-use Rattle.hub_table.specs.Tables.{GripsAreHeld, SlipAndTask, lent_in_place}
 use Rattle.hub_table.specs.declared.told.NotTaken.TheVariants.{NotOut}
 use Rattle.hub_table.specs.declared.told.NotTaken.{NotTaken}
-use Rattle.std.proofs.Common.{ap, arith, refl, sym, ◌∙◌}
 use Rattle.std.proofs.lemmas.Grind.{common_steps}
-use Rattle.std.specs.Prelude.{Bool, List, None, Option, Some, false, if◌then◌else◌, slice_get, true, ℕ, ◌==◌, ◌≡◌}
 
 taken : (same may : Bool) (why : NotTaken) → ◌≡◌ {A = Option NotTaken} (if same then (if may then None else Some why) else Some NotOut) None → (same ≡ true) × (may ≡ true)
 taken true true why e = (refl, refl)

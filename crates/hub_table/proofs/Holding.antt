@@ -1,19 +1,6 @@
 -- Grips that are put into the places of their devices, and taken out of them.
-use Rattle.device_gate.specs.Grips.{Gripped}
-use Rattle.device_gate.specs.Places.{IsKept, all_home, kept_of}
-use Rattle.device_gate.specs.declared.gates.Place.TheVariants.{Home, Out}
-use Rattle.device_gate.specs.declared.gates.Place.{Place}
-use Rattle.device_gate.specs.declared.grips.Ready.{Ready}
-use Rattle.device_gate.specs.declared.slips.Slip.{Slip}
-use Rattle.device_gate.specs.declared.slips.Task.{Task}
-use Rattle.hub_core.proofs.Cited.{took_probe}
-use Rattle.hub_core.specs.HubCalls.{DeviceGoesOut, IsProbed}
-use Rattle.hub_core.specs.OpenHubs.{OpenHub, hub_state_of}
-use Rattle.hub_table.specs.Tables.{AreInPlace, GripsAreHeld, PlacesAreEmpty, SlipAndTask, lent_by, lent_in_place, what_is_held, what_is_lent}
-use Rattle.std.proofs.Common.{ap, arith, refl, subst, sym, ◌∙◌}
+use Rattle.hub_table.proofs.Prelude.{AreInPlace, DeviceGoesOut, Gripped, GripsAreHeld, Home, IsKept, IsProbed, List, None, OpenHub, Option, Out, Place, PlacesAreEmpty, Ready, Slip, SlipAndTask, Some, Task, [], all_home, ap, arith, hub_state_of, kept_of, length, lent_by, lent_in_place, option_map, refl, slice_get, slice_get-map, slice_set, subst, suc, sym, took_probe, what_is_held, what_is_lent, zero, ℕ, ◌∙◌, ◌∷◌, ◌≡◌}
 use Rattle.std.proofs.lemmas.List.{map-set}
-use Rattle.std.proofs.lemmas.Option.{slice_get-map}
-use Rattle.std.specs.Prelude.{List, None, Option, Some, [], length, option_map, slice_get, slice_set, suc, zero, ℕ, ◌∷◌, ◌≡◌}
 
 -- What is out, by place and by grip
 

@@ -1,15 +1,7 @@
 -- Grips that leave a table from the last place on, and places that hold nothing.
 use Rattle.device_gate.proofs.Cited.{none_out}
-use Rattle.device_gate.specs.Grips.{Gripped}
-use Rattle.device_gate.specs.Places.{IsKept, all_home}
-use Rattle.device_gate.specs.declared.gates.Place.TheVariants.{Home}
-use Rattle.device_gate.specs.declared.gates.Place.{Place}
-use Rattle.device_gate.specs.declared.grips.Ready.{Ready}
+use Rattle.hub_table.proofs.Prelude.{Gripped, GripsAreHeld, Home, IsKept, List, None, Option, Place, PlacesAreEmpty, Ready, Some, [], all_home, ap, arith, length, refl, slice_get, slice_get_within, slice_set, suc, sym, zero, ℕ, ◌++◌, ◌<◌, ◌∙◌, ◌∷◌, ◌≡◌, ◌≢◌}
 use Rattle.hub_table.proofs.Holding.{held_kept, held_out}
-use Rattle.hub_table.specs.Tables.{GripsAreHeld, PlacesAreEmpty}
-use Rattle.std.proofs.Common.{ap, arith, refl, sym, ◌∙◌}
-use Rattle.std.proofs.lemmas.Option.{slice_get_within}
-use Rattle.std.specs.Prelude.{List, None, Option, Some, [], length, slice_get, slice_set, suc, zero, ℕ, ◌++◌, ◌<◌, ◌∷◌, ◌≡◌, ◌≢◌}
 
 -- each grip that is left lies in the place of its device, which is out with it
 abbrev pub AreKept : {D : Type 0} → List (Place D) → List (Option (Gripped D Ready)) → Type 0

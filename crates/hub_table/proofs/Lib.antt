@@ -1,4 +1,5 @@
 mod Answering
 mod Holding
 mod Leaving
+mod Prelude
 mod Standing

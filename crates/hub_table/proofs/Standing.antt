@@ -1,21 +1,10 @@
 -- Where a device stood that goes out, and is counted up.
-use Rattle.device_gate.specs.Calls.{is_counted_up}
-use Rattle.device_gate.specs.Grips.{Gripped, IsAsLeft}
-use Rattle.device_gate.specs.declared.grips.Ready.{Ready}
-use Rattle.device_gate.specs.declared.slips.Slip.{Slip}
+use Rattle.hub_table.proofs.Prelude.{Bool, Configuration, DeviceGoesOut, Gripped, HubStands, IsAsLeft, IsProbed, IsTrue, None, OpenHub, Ready, Slip, Some, StoodInOrder, Task, ap, configuration_of, decide_is, false, hub_state_of, if◌then◌else◌, is_counted_up, max, not, point_of, read_of, refl, subst, sym, took_choice, took_probe, true, ℕ, ⊤, ◌||◌, ◌∙◌, ◌≡◌}
 use Rattle.device_gate.specs.declared.slips.Task.TheVariants.{Probe}
-use Rattle.device_gate.specs.declared.slips.Task.{Task}
 use Rattle.device_states.specs.Devices.{Shown}
-use Rattle.hub_core.proofs.Cited.{decide_is, took_choice, took_probe}
-use Rattle.hub_core.specs.HubCalls.{DeviceGoesOut, HubStands, IsProbed}
 use Rattle.hub_core.specs.HubSteps.{HubState, ProbeTaken, Probed, carrying, task_of}
-use Rattle.hub_core.specs.OpenHubs.{OpenHub, configuration_of, hub_state_of}
 use Rattle.hub_core.specs.Steps.{Absent, Choice, HandsOut, Moves, Over, Waits, after_take_probe, choice_of, may_probe, probe_grip}
-use Rattle.hub_table.specs.Tables.{StoodInOrder}
-use Rattle.lock_leasing.specs.Configurations.{Configuration, point_of, read_of}
 use Rattle.lock_leasing.specs.Words.{standing_value}
-use Rattle.std.proofs.Common.{ap, refl, subst, sym, ◌∙◌}
-use Rattle.std.specs.Prelude.{Bool, IsTrue, None, Some, false, if◌then◌else◌, max, not, true, ℕ, ⊤, ◌||◌, ◌≡◌}
 
 -- a step hands out no device that is counted down
 abbrev OutIsUp : (ℕ → Bool) → Choice → Type 0

@@ -1,28 +1,7 @@
 -- What the steps of a hub add to its history, and its last moment after them.
-use Rattle.device_gate.specs.Grips.{Gripped}
-use Rattle.device_gate.specs.declared.gates.Place.TheVariants.{Home, Out}
-use Rattle.device_gate.specs.declared.gates.Place.{Place}
-use Rattle.device_gate.specs.declared.grips.Done.{Done}
-use Rattle.device_gate.specs.declared.grips.Ready.{Ready}
-use Rattle.device_gate.specs.declared.slips.Slip.{Slip}
-use Rattle.device_gate.specs.declared.slips.Told.{Told}
-use Rattle.history_book.specs.Histories.{kept_by}
-use Rattle.history_book.specs.declared.entries.Entry.{Entry}
+use Rattle.hub_threads.proofs.Prelude.{Absent, Bool, Carried, Choice, Chose, Configuration, Done, Entry, Gave, Give, GiveProbe, Go, Grip, Gripped, HandsOut, Home, HubState, HubStep, IsGiven, IsProbeGiven, IsProbed, IsTurn, List, Moved, Moves, None, Ok, OpenHub, Option, Out, Over, Place, Ready, Returned, Slip, Some, Take, Told, Turn, Wait, Waits, [], after_choice, after_give, ap, append-nil, arith, at_moment, carried_by, carried_in, common_steps, configuration_of, entries_told, false, gave_back, gave_probe_back, give_entries, give_if, grip_in, hub_state_of, if◌then◌else◌, is_kept, kept_by, length, length-append, length-map, max, may_probe, nat_lt, option_map, progress_at, read_of, refl, same_carried, same_slip, same_task, slice_get, subst, sym, took_after, took_choice, took_probe, true, unwrap_or, ℕ, ◌&&◌, ◌++◌, ◌+◌, ◌==◌, ◌∙◌, ◌≡◌, ◌≤◌}
 use Rattle.history_book.specs.declared.entries.Kept.{Kept}
-use Rattle.hub_core.proofs.Cited.{gave_back, gave_probe_back, took_after, took_choice, took_probe}
-use Rattle.hub_core.specs.HubCalls.{IsGiven, IsProbeGiven, IsProbed, IsTurn, carried_by}
-use Rattle.hub_core.specs.HubSteps.{Carried, Chose, Gave, Give, GiveProbe, HubState, HubStep, Returned, Take, give_if, is_kept, same_carried, same_slip, same_task}
-use Rattle.hub_core.specs.OpenHubs.{OpenHub, carried_in, configuration_of, hub_state_of}
-use Rattle.window_devices.specs.KnownDevices.{grip_in, progress_at}
-use Rattle.hub_core.specs.Steps.{Absent as IsAbsent, Choice, HandsOut, Moves, Over as IsOver, Waits, after_choice, after_give, at_moment, give_entries, may_probe}
-use Rattle.hub_core.specs.declared.turns.Turn.TheVariants.{Absent, Go, Moved, Over, Wait}
-use Rattle.hub_core.specs.declared.turns.Turn.{Turn}
-use Rattle.hub_threads.specs.Named.{entries_told}
-use Rattle.lock_leasing.specs.Configurations.{Configuration, Grip, read_of}
-use Rattle.std.proofs.Common.{ap, arith, refl, subst, sym, ◌∙◌}
-use Rattle.std.proofs.lemmas.Grind.{common_steps}
-use Rattle.std.proofs.lemmas.List.{append-nil, length-append, length-map}
-use Rattle.std.specs.Prelude.{Bool, List, None, Ok, Option, Some, [], false, if◌then◌else◌, length, max, nat_lt, option_map, slice_get, true, unwrap_or, ℕ, ◌&&◌, ◌++◌, ◌+◌, ◌==◌, ◌≡◌, ◌≤◌}
+use Rattle.hub_core.specs.Steps.{Absent as IsAbsent, Over as IsOver}
 use Rattle.window_order.proofs.Cited.{both}
 
 -- the step has added these entries of this maker, and this is the last moment then

@@ -1,28 +1,10 @@
 -- What is kept of what lies under the lock, after each step of the hub.
-use Rattle.device_gate.specs.Grips.{Gripped}
-use Rattle.device_states.specs.Devices.{Shown}
-use Rattle.grip_seats.specs.Desks.{DeskName, DeskState}
-use Rattle.device_gate.specs.declared.grips.Done.{Done}
-use Rattle.device_gate.specs.declared.grips.Ready.{Ready}
-use Rattle.history_book.specs.declared.entries.Entry.{Entry}
-use Rattle.hub_core.proofs.Cited.{sleepers_later}
-use Rattle.blocked_runs.specs.RunBits.{has_run}
-use Rattle.hub_core.specs.HubCalls.{IsGiven, IsProbeGiven, IsProbed, IsTurn, SameWindow}
-use Rattle.hub_core.specs.OpenHubs.{OpenHub, configuration_of}
-use Rattle.hub_core.specs.Steps.{Absent as IsAbsent, Waits}
-use Rattle.hub_core.specs.declared.turns.Turn.TheVariants.{Absent, Go, Moved, Over, Wait}
-use Rattle.hub_core.specs.declared.turns.Turn.{Turn}
+use Rattle.hub_threads.proofs.Prelude.{Absent, Configuration, DeskName, DeskState, Done, Entry, Go, Gripped, HasPlan, IsGiven, IsProbeGiven, IsProbed, IsTurn, IsWithin, Lent, List, Moved, NamedWindow, None, Ok, OpenHub, Over, Ready, SameWindow, Shown, SleepersAreBlocked, Some, Turn, Wait, Waits, ap, configuration_of, has_run, is_idle, length, out_after, sleepers_later, slice_set, subst, sym, true, turn_entries, ℕ, ◌+◌, ◌∙◌, ◌≡◌}
+use Rattle.hub_core.specs.Steps.{Absent as IsAbsent}
 use Rattle.hub_threads.proofs.Added.{Adds, given_adds, more_entries, probe_given_adds, probed_adds, some_slip, took, turn_adds}
 use Rattle.hub_threads.proofs.Named.{given_named, probe_given_named, probed_named, turn_named}
 use Rattle.hub_threads.proofs.Passes.{given_out, probe_given_out, probe_out, turn_out}
 use Rattle.hub_threads.specs.Holding.{IsHeld}
-use Rattle.hub_threads.specs.Named.{HasPlan, is_idle, turn_entries}
-use Rattle.hub_threads.specs.Names.{IsWithin, NamedWindow}
-use Rattle.hub_threads.specs.Passes.{Lent, out_after}
-use Rattle.hub_threads.specs.Sleepers.{SleepersAreBlocked}
-use Rattle.lock_leasing.specs.Configurations.{Configuration}
-use Rattle.std.proofs.Common.{ap, subst, sym, ◌∙◌}
-use Rattle.std.specs.Prelude.{List, None, Ok, Some, length, slice_set, true, ℕ, ◌+◌, ◌≡◌}
 
 -- told is kept, where what the step told is added
 counted_more : {D : Type 0} (s t : OpenHub D) (maker moment told now : ℕ) (entries : List Entry) → told ≡ length s.history → now ≡ told + length entries → Adds s maker entries moment t → now ≡ length t.history

@@ -2,6 +2,7 @@ mod Added
 mod Plans
 mod Moments
 mod Named
+mod Prelude
 mod RunWords
 mod Passes
 mod Holding

@@ -1,38 +1,21 @@
 -- The moments that a hub's history tells, after each of its steps.
 use Rattle.command_rules.specs.Rosters.{device_no, run_no}
-use Rattle.device_gate.specs.Grips.{Gripped}
-use Rattle.device_gate.specs.declared.grips.Done.{Done}
-use Rattle.device_gate.specs.declared.slips.Slip.{Slip}
+use Rattle.hub_threads.proofs.Prelude.{Absent, AreWithin, Bool, Choice, Chose, Configuration, Done, Entry, Go, Grip, Gripped, HubStep, IfSome, IsGiven, IsProbeGiven, IsTurn, List, Moved, Moves, None, Ok, OpenHub, Option, Over, Purpose, Slip, Some, Take, TellsWithin, Told, Turn, Wait, [], arith, choice_of, command_entries, configuration_of, decide_is, entries_told, false, give_entries, hub_state_of, if◌then◌else◌, kept_by, length, max, moment_told, not, option_map, option_to_list, probe_entries, read_of, refl, subst, sym, took_choice, true, undo_entries, ℕ, ◌&&◌, ◌++◌, ◌∷◌, ◌≡◌, ◌≤◌}
 use Rattle.device_gate.specs.declared.slips.Told.TheVariants.{Died, Sensed, Worked}
-use Rattle.device_gate.specs.declared.slips.Told.{Told}
-use Rattle.history_book.specs.Histories.{kept_by}
 use Rattle.history_book.specs.Readings.{Reading, did, is_doomed, next_of}
 use Rattle.history_book.specs.Settings.{Setting, is_weak}
 use Rattle.history_book.specs.declared.entries.Cause.TheVariants.{DownAtEnd, Lost, MustDown, Refuted, Revoked}
 use Rattle.history_book.specs.declared.entries.Entry.TheVariants.{Arrived, Did, Doomed, Fell, Placed, Rose, Undid}
-use Rattle.history_book.specs.declared.entries.Entry.{Entry}
 use Rattle.home_types.specs.Commands.{fails}
 use Rattle.home_types.specs.declared.commands.Answer.TheVariants.{Down, Fine, Found, Skipped}
 use Rattle.home_types.specs.declared.commands.Command.{Command}
 use Rattle.command_rules.specs.Rosters.{command_at}
-use Rattle.hub_core.proofs.Cited.{decide_is, took_choice}
-use Rattle.hub_core.specs.HubCalls.{IsGiven, IsProbeGiven, IsTurn}
-use Rattle.hub_core.specs.HubSteps.{Chose, HubStep, Take}
-use Rattle.hub_core.specs.OpenHubs.{OpenHub, configuration_of, hub_state_of}
-use Rattle.hub_core.specs.Steps.{Choice, Moves, Over as IsOver, choice_of, command_entries, give_entries, probe_entries, undo_entries}
-use Rattle.hub_core.specs.declared.turns.Turn.TheVariants.{Absent, Go, Moved, Over, Wait}
-use Rattle.hub_core.specs.declared.turns.Turn.{Turn}
+use Rattle.hub_core.specs.Steps.{Over as IsOver}
 use Rattle.hub_threads.proofs.Added.{chosen_entries, given_entries_are, probe_given_entries_are, some_slip}
-use Rattle.hub_threads.specs.Moments.{AreWithin, TellsWithin, moment_told}
-use Rattle.hub_threads.specs.Named.{entries_told}
-use Rattle.lock_leasing.specs.Configurations.{Configuration, Grip, read_of}
 use Rattle.lock_leasing.specs.declared.purposes.Purpose.TheVariants.{Commands, Probes, Undoes}
-use Rattle.lock_leasing.specs.declared.purposes.Purpose.{Purpose}
 use Rattle.lock_leasing.specs.Waits.{lost_by}
 use Rattle.lock_leasing.specs.Words.{lease_deadline}
-use Rattle.std.proofs.Common.{arith, refl, subst, sym}
 use Rattle.std.proofs.lemmas.List.Elements.{All-append, All-cons, All-nil}
-use Rattle.std.specs.Prelude.{Bool, IfSome, List, None, Ok, Option, Some, [], false, if◌then◌else◌, length, max, option_map, option_to_list, not, true, ℕ, ◌&&◌, ◌++◌, ◌∷◌, ◌≡◌, ◌≤◌}
 
 -- an entry before others
 before : (earliest latest maker : ℕ) (entry : Entry) (entries : List Entry) → IfSome (moment_told entry) (λ m. (earliest ≤ m) × (m ≤ latest)) → AreWithin earliest latest (kept_by maker entries) → AreWithin earliest latest (kept_by maker (entry ∷ entries))

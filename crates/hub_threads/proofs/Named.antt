@@ -1,23 +1,8 @@
 -- A hub that is of the window of a name is so after each of its steps at a moment that is not after the clock's latest, and the device that a step hands out has the plan of its place.
-use Rattle.device_gate.specs.Grips.{Gripped}
-use Rattle.device_gate.specs.declared.gates.Place.{Place}
-use Rattle.device_gate.specs.declared.grips.Done.{Done}
-use Rattle.device_gate.specs.declared.grips.Ready.{Ready}
-use Rattle.device_states.specs.Devices.{Plan, Shown}
-use Rattle.history_book.specs.declared.entries.Entry.{Entry}
-use Rattle.hub_core.proofs.Cited.{took_probe}
-use Rattle.hub_core.specs.HubCalls.{IsGiven, IsProbeGiven, IsProbed, IsTurn, SameWindow}
-use Rattle.hub_core.specs.OpenHubs.{OpenHub, hub_state_of}
-use Rattle.hub_core.specs.declared.turns.Turn.TheVariants.{Absent, Go, Moved, Over, Wait}
-use Rattle.hub_core.specs.declared.turns.Turn.{Turn}
+use Rattle.hub_threads.proofs.Prelude.{Absent, AreWithin, Done, Entry, Go, Gripped, HasPlan, IsGiven, IsNamed, IsProbeGiven, IsProbed, IsTurn, IsWithin, List, Moved, NamedWindow, None, Ok, OpenHub, Option, Over, Place, PlacesHavePlans, Plan, Ready, SameWindow, Shown, Some, Turn, TurnHasPlan, Wait, ap, arith, hub_state_of, max, subst, sym, took_probe, ℕ, ◌∙◌, ◌≡◌, ◌≤◌}
 use Rattle.hub_threads.proofs.Plans.{plans_home, plans_out}
 use Rattle.hub_threads.proofs.Added.{given_adds, given_moment, probe_given_adds, probed_adds, turn_adds}
 use Rattle.hub_threads.proofs.Moments.{given_within, probe_given_within, turn_within, within_more}
-use Rattle.hub_threads.specs.Moments.{AreWithin}
-use Rattle.hub_threads.specs.Named.{HasPlan, IsNamed, PlacesHavePlans, TurnHasPlan}
-use Rattle.hub_threads.specs.Names.{IsWithin, NamedWindow}
-use Rattle.std.proofs.Common.{ap, arith, subst, sym, ◌∙◌}
-use Rattle.std.specs.Prelude.{List, None, Ok, Option, Some, max, ℕ, ◌≡◌, ◌≤◌}
 
 named_after : {D : Type 0} (shows : D → Shown) (window : NamedWindow) (s t : OpenHub D)
     → IsNamed shows window s → SameWindow s t → t.moment ≤ window.latest → AreWithin window.earliest window.latest t.history → PlacesHavePlans shows window.plans t.places → IsNamed shows window t

@@ -1,28 +1,7 @@
 -- What is out of the places of a hub, and the passes for it, at each of its steps.
-use Rattle.device_gate.specs.Grips.{Gripped}
-use Rattle.device_gate.specs.declared.gates.Place.TheVariants.{Home, Out}
-use Rattle.device_gate.specs.declared.gates.Place.{Place}
-use Rattle.device_gate.specs.declared.grips.Done.{Done}
-use Rattle.device_gate.specs.declared.grips.Ready.{Ready}
-use Rattle.device_gate.specs.declared.slips.Slip.{Slip}
-use Rattle.device_gate.specs.declared.slips.Task.{Task}
+use Rattle.hub_threads.proofs.Prelude.{Absent, CanGoOut, Carried, Configuration, DeskName, Done, Entry, Err, Go, GoesWith, Gripped, HandsOut, Home, IfSome, IsDetectorsPass, IsGiven, IsPassOf, IsProbeGiven, IsProbed, IsRunsPass, IsSlipOf, IsTurn, Lent, List, Moved, None, Ok, OpenHub, Option, Out, Over, PassState, Place, Purpose, Ready, Slip, SlipFits, Some, Task, Turn, Wait, [], ap, arith, carried_by, carried_in, choice_of, configuration_of, hub_state_of, length, map-set, never_refused, opened, option_map, out_after, out_in, probe_never_refused, refl, replicate, slice_get, slice_get-map, slice_set, subst, suc, sym, took_choice, took_probe, what_is_out, zero, ℕ, ◌<◌, ◌∙◌, ◌∷◌, ◌≡◌}
 use Rattle.device_gate.specs.declared.strangers.Stranger.{Stranger}
-use Rattle.grip_seats.specs.Desks.{DeskName, PassState}
-use Rattle.history_book.specs.declared.entries.Entry.{Entry}
-use Rattle.hub_core.proofs.Cited.{never_refused, probe_never_refused, took_choice, took_probe}
-use Rattle.hub_core.specs.HubCalls.{IsGiven, IsProbeGiven, IsProbed, IsTurn, carried_by}
-use Rattle.hub_core.specs.HubSteps.{Carried, IsSlipOf, SlipFits}
-use Rattle.hub_core.specs.OpenHubs.{OpenHub, carried_in, configuration_of, hub_state_of}
-use Rattle.hub_core.specs.Steps.{Absent as IsAbsent, HandsOut, choice_of, opened}
-use Rattle.hub_core.specs.declared.turns.Turn.TheVariants.{Absent, Go, Moved, Over, Wait}
-use Rattle.hub_core.specs.declared.turns.Turn.{Turn}
-use Rattle.hub_threads.specs.Passes.{CanGoOut, GoesWith, IsDetectorsPass, IsPassOf, IsRunsPass, Lent, out_after, out_in, what_is_out}
-use Rattle.lock_leasing.specs.Configurations.{Configuration}
-use Rattle.lock_leasing.specs.declared.purposes.Purpose.{Purpose}
-use Rattle.std.proofs.Common.{ap, arith, refl, subst, sym, ◌∙◌}
-use Rattle.std.proofs.lemmas.List.{map-set}
-use Rattle.std.proofs.lemmas.Option.{slice_get-map}
-use Rattle.std.specs.Prelude.{Err, IfSome, List, None, Ok, Option, Some, [], length, option_map, replicate, slice_get, slice_set, suc, zero, ℕ, ◌<◌, ◌∷◌, ◌≡◌}
+use Rattle.hub_core.specs.Steps.{Absent as IsAbsent}
 
 -- Places
 

@@ -1,12 +1,5 @@
 -- The plans of the devices that are home, when one goes out and when one comes back.
-use Rattle.device_gate.specs.declared.gates.Place.TheVariants.{Home, Out}
-use Rattle.device_gate.specs.declared.gates.Place.{Place}
-use Rattle.device_gate.specs.declared.slips.Slip.{Slip}
-use Rattle.device_gate.specs.declared.slips.Task.{Task}
-use Rattle.device_states.specs.Devices.{Plan, Shown}
-use Rattle.hub_threads.specs.Named.{PlacesHavePlans}
-use Rattle.std.proofs.Common.{ap, inl, inr, refl, sym, ◌∙◌}
-use Rattle.std.specs.Prelude.{List, Some, [], slice_get, slice_set, suc, zero, ℕ, ◌∷◌, ◌≡◌, ◌⊎◌}
+use Rattle.hub_threads.proofs.Prelude.{Home, List, Out, Place, PlacesHavePlans, Plan, Shown, Slip, Some, Task, [], ap, inl, inr, refl, slice_get, slice_set, suc, sym, zero, ℕ, ◌∙◌, ◌∷◌, ◌≡◌, ◌⊎◌}
 
 -- what stands in a place after a write is what was written, or what stood there
 there_or : {A : Type 0} (xs : List A) (i j : ℕ) (y z : A) → slice_get (slice_set xs i y) j ≡ Some z → ((j ≡ i) × (y ≡ z)) ⊎ (slice_get xs j ≡ Some z)

@@ -1,14 +1,6 @@
 -- The answers of all rooms, room by room.
-use Rattle.device_states.specs.Devices.{Shown}
+use Rattle.hub_threads.proofs.Prelude.{AreRoomsWorked, Err, IfOk, IsRoomWorked, List, NoMemory, Ok, Result, RoomDone, RoomHub, Shown, Some, ap, get_or, get_or-map, get_or_from_slice_get, length, length-map, map, slice_get, slice_get_within, subst, sym, ℕ, ◌<◌, ◌∙◌, ◌≡◌}
 use Rattle.home_types.specs.Listed.{Listed}
-use Rattle.home_types.specs.declared.memory.NoMemory.{NoMemory}
-use Rattle.hub_threads.specs.WorkedRooms.{AreRoomsWorked, IsRoomWorked}
-use Rattle.hub_threads.specs.declared.rooms.RoomDone.{RoomDone}
-use Rattle.hub_threads.specs.declared.rooms.RoomHub.{RoomHub}
-use Rattle.std.proofs.Common.{Err, List, Ok, Result, Some, ap, get_or, length, map, subst, sym, ℕ, ◌<◌, ◌∙◌, ◌≡◌}
-use Rattle.std.proofs.lemmas.List.{get_or-map, length-map}
-use Rattle.std.proofs.lemmas.Option.{get_or_from_slice_get, slice_get_within}
-use Rattle.std.specs.Prelude.{IfOk, slice_get}
 
 module _ {D : Type 0} (shows : D → Shown) (earliest latest : ℕ) where
   all_went : (jobs : List (RoomHub D)) (all : List (RoomDone D)) (answers : List (Result (RoomDone D) NoMemory)) → map Ok all ≡ answers → length answers ≡ length jobs

@@ -1,13 +1,7 @@
 -- The words of the runs that sleep.
 use Rattle.blocked_runs.proofs.Cited.{has_either, has_nothing, has_one, has_without}
-use Rattle.blocked_runs.specs.RunBits.{has_run}
-use Rattle.hub_core.specs.BlockedRuns.{IsBlocked}
-use Rattle.hub_threads.specs.Sleepers.{SleepersAreBlocked, has_run_bit}
-use Rattle.lock_leasing.specs.Configurations.{Configuration}
-use Rattle.std.proofs.Common.{ap, arith, refl, subst, sym, ◌∙◌}
-use Rattle.std.proofs.lemmas.Grind.{common_steps}
+use Rattle.hub_threads.proofs.Prelude.{Bool, Configuration, IsBlocked, SleepersAreBlocked, ap, arith, bit_and, bit_or, common_steps, false, has_run, has_run_bit, if◌then◌else◌, not, refl, subst, sym, true, ℕ, ◌&&◌, ◌-◌, ◌<◌, ◌==◌, ◌^◌, ◌||◌, ◌∙◌, ◌≡◌}
 use Rattle.std.specs.Int.{bit_not, w64}
-use Rattle.std.specs.Prelude.{Bool, bit_and, bit_or, false, if◌then◌else◌, not, true, ℕ, ◌&&◌, ◌-◌, ◌<◌, ◌==◌, ◌^◌, ◌||◌, ◌≡◌}
 
 -- nobody sleeps in the word of zeros
 pub none_blocked : (s : Configuration) → SleepersAreBlocked s 0

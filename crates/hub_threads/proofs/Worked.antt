@@ -1,17 +1,8 @@
 -- A hub whose window was worked to its end under its name, and closed: what it leaves.
-use Rattle.device_states.specs.Devices.{Shown}
+use Rattle.hub_threads.proofs.Prelude.{AreWithin, HubStands, IsNamed, NamedWindow, OpenHub, Shown, WindowIsClosed, arith, length, plan_in, probes_taken, progress_at, refl, slice_get, subst, sym, window_worked, ℕ, ◌<◌, ◌≡◌}
 use Rattle.history_book.specs.declared.records.WindowRecord.{WindowRecord}
-use Rattle.hub_core.proofs.Cited.{plan_in, window_worked}
 use Rattle.hub_core.specs.Homes.{HomeState}
-use Rattle.hub_core.specs.HubCalls.{HubStands, WindowIsClosed, probes_taken}
-use Rattle.hub_core.specs.OpenHubs.{OpenHub}
-use Rattle.window_devices.specs.KnownDevices.{progress_at}
-use Rattle.hub_threads.specs.Moments.{AreWithin}
-use Rattle.hub_threads.specs.Named.{IsNamed}
-use Rattle.hub_threads.specs.Names.{NamedWindow}
 use Rattle.hub_threads.specs.WorkedWindows.{IsRunBy, IsWorked, NoneIsLeft}
-use Rattle.std.proofs.Common.{arith, refl, subst, sym}
-use Rattle.std.specs.Prelude.{length, slice_get, ℕ, ◌<◌, ◌≡◌}
 
 -- what the hub of a window keeps from its opening on, worked between these moments
 abbrev pub window_of : {D : Type 0} → (D → Shown) → ℕ → ℕ → OpenHub D → NamedWindow

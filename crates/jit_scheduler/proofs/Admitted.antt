@@ -1,26 +1,15 @@
 -- What is answered by the first place and the first denial is what just-in-time admission says.
 use Rattle.command_rules.proofs.Cited.{device_below}
-use Rattle.command_rules.specs.Rosters.{commands_of, device_no, is_run, run_no, touches}
+use Rattle.jit_scheduler.proofs.Prelude.{Admitting, Bool, Denial, DeniedBy, Grips, IsAdmissionOf, IsPlaceOfLine, IsPlacingOf, IsToBePlaced, IsTrue, Mark, MayAdmit, None, Option, Placing, Reading, Setting, Some, WindowParts, admission, admitted_placing, answer_by, ap, arith, commands_of, common_steps, denial_of, device_no, facts_of, false, first_denial, first_place, if◌then◌else◌, is_live, is_run, is_some, just_in_time, length, nat_le, option_map, patience, place_within, point, point_of, read_of, refl, run_no, subst, sym, touches, true, unwrap_or, ℕ, ◌+◌, ◌<◌, ◌∙◌, ◌≡◌, ◌≤◌}
 use Rattle.history_book.specs.Lines.{split_at}
-use Rattle.history_book.specs.Readings.{Reading, is_live}
-use Rattle.history_book.specs.Settings.{Setting}
 use Rattle.home_types.specs.Limits.{most_devices}
 use Rattle.jit_scheduler.proofs.Deniers.{denial_is, plain_denial}
-use Rattle.jit_scheduler.specs.Admissions.{Admitting, IsAdmissionOf, IsPlaceOfLine, IsPlacingOf, IsToBePlaced, MayAdmit, admission, admitted_placing, answer_by}
-use Rattle.jit_scheduler.specs.Denials.{first_denial}
 use Rattle.jit_scheduler.specs.declared.answers.Admit.TheVariants.{At, Denied, Patience}
 use Rattle.jit_scheduler.specs.declared.answers.Admit.{Admit}
 use Rattle.jit_scheduler.specs.declared.denials.Denial.{Denial as FoundDenial}
-use Rattle.lock_leasing.proofs.Cited.{facts_of, place_within}
-use Rattle.lock_leasing.specs.Configurations.{Grips, point, point_of, read_of}
 use Rattle.lock_leasing.specs.FirstPlaces.{IsFirstPlaceOf}
-use Rattle.lock_leasing.specs.Places.{At as PlacedAt, Denial, DeniedBy, Placing, denial_of, first_place, just_in_time, patience}
-use Rattle.lock_leasing.specs.Standings.{WindowParts}
-use Rattle.serial_line.specs.Marks.{Mark}
-use Rattle.std.proofs.Common.{ap, arith, refl, subst, sym, ◌∙◌}
-use Rattle.std.proofs.lemmas.Grind.{common_steps}
+use Rattle.lock_leasing.specs.Places.{At as PlacedAt}
 use Rattle.std.proofs.lemmas.List.{length-map}
-use Rattle.std.specs.Prelude.{Bool, IsTrue, None, Option, Some, false, if◌then◌else◌, is_some, length, nat_le, option_map, true, unwrap_or, ℕ, ◌+◌, ◌<◌, ◌≡◌, ◌≤◌}
 
 -- A run that is to be placed
 

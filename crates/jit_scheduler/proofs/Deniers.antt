@@ -1,31 +1,10 @@
 -- By which run a device is denied: the parts of one window tell it as the history does.
-use Rattle.command_rules.specs.Rosters.{device_no, reads_first, touches}
+use Rattle.jit_scheduler.proofs.Prelude.{Access, Bool, Configuration, Denial, EachTellsOfRun, Facts, Grips, IsLineageOf, IsStandingOf, Kept, List, Mark, None, Option, Reading, RunNo, Setting, Some, WindowParts, Write, accesses_at, ap, ap₂, arith, denial_of, denial_on, denied_by, denier, device_no, doom_of, effective_write, effective_writer, effective_writer_of, facts_of, false, find, first_denial, first_place, first_some, holder_before, holds_device, if◌then◌else◌, is_doomed, is_live, is_some, items_of, length, lineage_at, live_runs, live_writer, map, only_before, option_map, option_or, point, point_of, range_with_len, read_of, reads_first, refl, runs_with_access, stands_before, sym, take, touches, true, writer_is, ℕ, ◌<◌, ◌∙◌, ◌≡◌}
 use Rattle.history_book.proofs.Cited.{doom_is}
-use Rattle.history_book.specs.Books.{doom_of}
-use Rattle.history_book.specs.Readings.{Reading, is_doomed, is_live}
-use Rattle.history_book.specs.Settings.{Setting}
-use Rattle.history_book.specs.declared.entries.Kept.{Kept}
-use Rattle.home_types.specs.declared.numbers.RunNo.{RunNo}
 use Rattle.jit_scheduler.proofs.Fronts.{first_in_front, where_among}
 use Rattle.jit_scheduler.proofs.Holders.{first_holder_is}
 use Rattle.jit_scheduler.proofs.Searches.{first_alike, first_filtered}
-use Rattle.jit_scheduler.specs.Denials.{denial_on, denier, first_denial, only_before, stands_before}
 use Rattle.jit_scheduler.specs.declared.denials.Denial.{Denial as FoundDenial}
-use Rattle.lineage_table.specs.Accesses.{effective_writer}
-use Rattle.lineage_table.specs.Lineages.{accesses_at, lineage_at}
-use Rattle.lineage_table.specs.declared.accesses.Access.{Access}
-use Rattle.lock_leasing.proofs.Cited.{Facts, facts_of, live_writer, writer_is}
-use Rattle.lock_leasing.specs.Configurations.{Configuration, Grips, point, point_of, read_of}
-use Rattle.lock_leasing.specs.Holders.{holder_before}
-use Rattle.lock_leasing.specs.Places.{Denial, denial_of, denied_by, first_place, first_some}
-use Rattle.lock_leasing.specs.Standings.{IsStandingOf, WindowParts}
-use Rattle.lock_leasing.specs.Tables.{EachTellsOfRun, IsLineageOf, runs_with_access}
-use Rattle.lock_leasing.specs.Words.{Write, effective_write, effective_writer_of, holds_device, live_runs}
-use Rattle.serial_line.specs.Marks.{Mark, items_of}
-use Rattle.std.proofs.Common.{ap, ap₂, arith, refl, sym, ◌∙◌}
-use Rattle.std.specs.List.{range_with_len}
-use Rattle.std.specs.Option.{option_or}
-use Rattle.std.specs.Prelude.{Bool, List, None, Option, Some, false, find, if◌then◌else◌, is_some, length, map, option_map, take, true, ℕ, ◌<◌, ◌≡◌}
 
 -- the run, where it is live
 abbrev live_one : Reading → Option ℕ → Option ℕ

@@ -1,14 +1,8 @@
 -- The first denial, found by a walk from one device of a run to its next one.
-use Rattle.command_rules.specs.Rosters.{device_no, touches}
+use Rattle.jit_scheduler.proofs.Prelude.{Bool, None, RunNo, Some, WindowParts, accesses_at, ap, arith, denial_on, denier, device_no, false, first_denial, if◌then◌else◌, length, option_map, refl, sym, touches, true, ℕ, ◌+◌, ◌<◌, ◌∙◌, ◌≡◌, ◌≤◌}
 use Rattle.home_types.specs.declared.numbers.DeviceNo.{DeviceNo}
-use Rattle.home_types.specs.declared.numbers.RunNo.{RunNo}
 use Rattle.jit_scheduler.proofs.Searches.{first_at, first_nowhere, none_before, none_through}
-use Rattle.jit_scheduler.specs.Denials.{denial_on, denier, first_denial}
 use Rattle.jit_scheduler.specs.declared.denials.Denial.{Denial}
-use Rattle.lineage_table.specs.Lineages.{accesses_at}
-use Rattle.lock_leasing.specs.Standings.{WindowParts}
-use Rattle.std.proofs.Common.{ap, arith, refl, sym, ◌∙◌}
-use Rattle.std.specs.Prelude.{Bool, None, Some, false, if◌then◌else◌, length, option_map, true, ℕ, ◌+◌, ◌<◌, ◌≡◌, ◌≤◌}
 
 abbrev by_run : DeviceNo → RunNo → Denial
 by_run d x = record { device = d; run = x }

@@ -1,14 +1,6 @@
 -- The first live run of which a test holds, where it stands in the first part of a line.
 use Rattle.command_rules.specs.Items.{is_ran}
-use Rattle.history_book.specs.Readings.{Reading, is_live}
-use Rattle.home_types.specs.declared.items.Item.TheVariants.{Back, Failed, Ran}
-use Rattle.home_types.specs.declared.items.Item.{Item}
-use Rattle.home_types.specs.declared.numbers.RunNo.{RunNo}
-use Rattle.lock_leasing.specs.Words.{live_runs}
-use Rattle.std.proofs.Common.{ap, arith, cond, refl, subst, sym, ◌∙◌}
-use Rattle.std.proofs.lemmas.Grind.{common_steps}
-use Rattle.std.specs.List.{cons_option, list_any, prefix_len}
-use Rattle.std.specs.Prelude.{Bool, List, None, Option, Some, [], false, find, if◌then◌else◌, length, nat_lt, not, option_and_then, option_map, position, suc, take, true, unwrap_or, zero, ℕ, ◌&&◌, ◌+◌, ◌==◌, ◌||◌, ◌∷◌, ◌≡◌}
+use Rattle.jit_scheduler.proofs.Prelude.{Back, Bool, Failed, Item, List, None, Option, Ran, Reading, RunNo, Some, [], ap, arith, common_steps, cond, cons_option, false, find, if◌then◌else◌, is_live, length, list_any, live_runs, nat_lt, not, option_and_then, option_map, position, prefix_len, refl, subst, suc, sym, take, true, unwrap_or, zero, ℕ, ◌&&◌, ◌+◌, ◌==◌, ◌||◌, ◌∙◌, ◌∷◌, ◌≡◌}
 
 -- the first place at which a test passes is below a number where some of so many items pass
 

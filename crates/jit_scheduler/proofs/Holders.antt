@@ -1,25 +1,7 @@
 -- The first run of the line that holds a device: the accesses tell it as the history does, to a run that has none.
-use Rattle.command_rules.specs.Rosters.{touches}
-use Rattle.history_book.specs.Books.{doom_of}
-use Rattle.history_book.specs.Readings.{Reading, did, is_doomed, is_live, pends}
-use Rattle.history_book.specs.Settings.{Setting}
-use Rattle.history_book.specs.declared.entries.Kept.{Kept}
-use Rattle.home_types.specs.declared.items.Item.TheVariants.{Back, Failed, Ran}
-use Rattle.home_types.specs.declared.items.Item.{Item}
-use Rattle.home_types.specs.declared.numbers.RunNo.{RunNo}
-use Rattle.lineage_table.specs.Accesses.{accesses_before, effective_writer, first_before, is_released}
-use Rattle.lineage_table.specs.declared.accesses.Access.{Access}
-use Rattle.lock_leasing.proofs.Cited.{EachTail, Facts, HasAccess, command_pends, has_work, live_writer, run_in, workers_have_access, writer_has_effect, writer_is}
-use Rattle.lock_leasing.specs.Configurations.{Grips, grips_command, point}
-use Rattle.lock_leasing.specs.Holders.{access_holds, holder_before, is_writer}
+use Rattle.jit_scheduler.proofs.Prelude.{Access, Back, Bool, EachTail, EachTellsOfRun, Facts, Failed, Grips, HasAccess, Item, Kept, List, None, Option, Ran, Reading, RunNo, Setting, Some, TellsOfRun, [], access_holds, accesses_before, ap, arith, command_pends, common_steps, cond, cons_option, did, doom_of, effective_write, effective_writer, false, find, first_before, grips_command, has_effect, has_work, holder_before, holds_device, if◌then◌else◌, is_doomed, is_live, is_released, is_some, is_writer, list_any, live_runs, live_writer, map, not, option_map, pends, point, refl, run_in, runs_with_access, status_by_answers, sym, touches, true, uses, workers_have_access, writer_has_effect, writer_is, ℕ, ◌&&◌, ◌==◌, ◌∙◌, ◌∷◌, ◌≡◌}
 use Rattle.lock_leasing.specs.Order.{covers}
-use Rattle.lock_leasing.specs.Tables.{EachTellsOfRun, TellsOfRun, runs_with_access, status_by_answers, uses}
-use Rattle.lock_leasing.specs.Words.{effective_write, has_effect, holds_device, live_runs}
-use Rattle.std.proofs.Common.{ap, arith, cond, refl, sym, ◌∙◌}
 use Rattle.std.proofs.lemmas.Bool.{and_from}
-use Rattle.std.proofs.lemmas.Grind.{common_steps}
-use Rattle.std.specs.List.{cons_option, list_any}
-use Rattle.std.specs.Prelude.{Bool, List, None, Option, Some, [], false, find, if◌then◌else◌, is_some, map, not, option_map, true, ℕ, ◌&&◌, ◌==◌, ◌∷◌, ◌≡◌}
 
 abbrev head_or : List ℕ → ℕ → ℕ
 head_or [] k = k

@@ -3,4 +3,5 @@ mod Deniers
 mod DeviceWalks
 mod Fronts
 mod Holders
+mod Prelude
 mod Searches

@@ -1,10 +1,5 @@
 -- The first number of a range for which something is told.
-use Rattle.lock_leasing.specs.Places.{first_some}
-use Rattle.std.proofs.Common.{ap, ap₂, arith, refl, subst, sym, ◌∙◌}
-use Rattle.std.proofs.lemmas.Grind.{common_steps}
-use Rattle.std.specs.List.{range_with_len}
-use Rattle.std.specs.Option.{option_or}
-use Rattle.std.specs.Prelude.{Bool, List, None, Option, Some, [], false, filter, if◌then◌else◌, nat_lt, option_map, suc, true, zero, ℕ, ◌+◌, ◌<◌, ◌==◌, ◌∷◌, ◌≡◌, ◌≢◌, ◌≤◌}
+use Rattle.jit_scheduler.proofs.Prelude.{Bool, List, None, Option, Some, [], ap, ap₂, arith, common_steps, false, filter, first_some, if◌then◌else◌, nat_lt, option_map, option_or, range_with_len, refl, subst, suc, sym, true, zero, ℕ, ◌+◌, ◌<◌, ◌==◌, ◌∙◌, ◌∷◌, ◌≡◌, ◌≢◌, ◌≤◌}
 
 -- it is told of this number, and of none of the range before it
 first_from : {A : Type 0} (f : ℕ → Option A) (a n d : ℕ) (x : A) → a ≤ d → d < a + n → f d ≡ Some x → ((e : ℕ) → e < d → f e ≡ None) → first_some f (range_with_len a n) ≡ Some x

@@ -1,22 +1,11 @@
 -- A home's block may go to another thread, since its state and its allocator may.
-use Rattle.lazbendix_c.specs.Owned.{block_owns}
+use Rattle.lazbendix_c.proofs.Prelude.{AllSend, Global, IsSend, LiveState, None, Option, Ptr, Some, block_owns, block_ptr, box_owns, exits_of, fields, ghosts, lone, null_ptr, owning_send, part_keyless, sendable, shape, struct_send, the_row, to}
 use Rattle.lazbendix_c.specs.contracts.handles.HomeBlock as home_block
-use Rattle.home_states.specs.LiveHomes.{LiveState}
-use Rattle.home_states.specs.contracts.homes.LiveHome.{the_row}
 use Rattle.std.proofs.Crossing.{frees}
-use Rattle.std.specs.Prelude.{None, Option, Some}
-use Rattle.std.specs.declared.alloc.Global.{Global}
 use Rattle.std_alloc.proofs.SendSync.{quiet}
 use base.Fraction.{full_share}
 use base.Shift.{Keyless}
-use denote.Memory.{lone}
-use denote.Param.Send.{AllSend, IsSend, owning_send, part_keyless, sendable, struct_send}
-use denote.RawPtr.{Ptr, block_ptr, null_ptr}
-use denote.Struct.Owning.{fields, shape, to}
-use denote.Struct.Struct.{exits_of}
 use mir.Raw.{raw}
-use Rattle.std_alloc.specs.Box.Ownership.{box_owns}
-use Rattle.std.specs.contracts.impls.GlobalAllocator.TheImpl.{ghosts}
 
 block_keyless : IsSend the_row → (a : Global) (p : Ptr) (x : LiveState) → Keyless (box_owns (ghosts.dealloc_token a) the_row p x)
 block_keyless s a (block_ptr b o) x = (part_keyless the_row s full_share x b o, frees.frees a (raw (lone the_row.mir)) (block_ptr b o))

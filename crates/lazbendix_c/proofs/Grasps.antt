@@ -1,37 +1,13 @@
 -- The machine values of a `Held`, and of a home's block. Assumes `Logic`.
-use Rattle.std.proofs.Common.{◌≡◌, ◌≢◌, ℕ, List, [], ◌∷◌, ◌++◌, ◌∙◌, lit<, refl, subst}
+use Rattle.lazbendix_c.proofs.Prelude.{Al, Fml, Global, Goal, Good, Item, Laws, List, LiveState, Logic, None, Option, Ptr, RattleType, RawPtr, Seq, Some, Step, Struct, Val, Valss, WT, [], block_owns, block_ptr, box_owns, dnil, drop, emp, ent, feq_i, feq_l, fjoin, fpack, fpick, fsplit, fst∗, ghosts, handle_tells, has_ty, impl, in_a_block, layout, lit<, lone, move, never, nothing, null_ptr, of_list, ptr_val, refl, sem, shape, step, subst, tcons, the_row, tnil, ty_ptr, ty_struct, vcons, vnil, vptr, vstruct, within, ‵, ℕ, ◌$◌, ◌++◌, ◌∙◌, ◌∷◌, ◌≡◌, ◌≢◌}
 use mathlib.Core.Bool.{Bool, true, false, ◌&&◌}
 use lib.Dec.{T}
 use seplogic.Ra.Ura.{Ura}
-use mir.Syntax.{impl, tnil, tcons, dnil, ty_ptr, ty_struct}
 use mir.Raw.{raw as bare}
-use mir.Val.{Val, vptr, vstruct, vcons, vnil, of_list, has_ty, WT}
-use base.Logic.{emp, ent, fst∗, never}
-use base.Fml.{Fml}
-use types.Logic.{Logic, sem}
-use types.Kit.{Item, Goal, Seq, Step, step, ‵, ◌$◌, move, drop, fsplit, fjoin, fpick, fpack, feq_i, feq_l}
-use denote.RattleType.{RattleType, Valss}
-use denote.Builtin.{RawPtr}
 use denote.Shadow.{makes_shadow, shadow}
-use denote.Memory.{lone}
-use denote.RawPtr.{Ptr, block_ptr, null_ptr, ptr_val, in_a_block}
-use denote.Steps.{nothing}
-use denote.Param.{layout}
-use denote.Param.Laws.{Laws}
-use denote.Struct.Struct.{Struct, within}
-use denote.Struct.Owning.{shape}
 use Rattle.core.specs.declared.alloc.Allocator.{Ghosts}
-use Rattle.core.proofs.alloc.Calls.{Al, handle_tells}
-use Rattle.core.proofs.cell.Inside.{Good}
-use Rattle.std_alloc.specs.Box.Ownership.{box_owns}
 use Rattle.std_alloc.proofs.ResultValues.{and_tt}
-use Rattle.lazbendix_c.specs.Owned.{block_owns}
 use Rattle.lazbendix_c.specs.contracts.handles.HeldBox as held_row
-use Rattle.home_states.specs.LiveHomes.{LiveState}
-use Rattle.home_states.specs.contracts.homes.LiveHome.{the_row}
-use Rattle.std.specs.Prelude.{None, Option, Some}
-use Rattle.std.specs.contracts.impls.GlobalAllocator.TheImpl.{ghosts}
-use Rattle.std.specs.declared.alloc.Global.{Global}
 
 abbrev pub both : Val → Val → Val
 both v w = vstruct (vcons v (vcons w vnil))

@@ -1,2 +1,3 @@
 mod Crossing
 mod Grasps
+mod Prelude

@@ -2,7 +2,7 @@
 use Rattle.command_rules.proofs.Cited.{is_of, of_one_device}
 use Rattle.command_rules.specs.Apart.{meet}
 use Rattle.command_rules.specs.ClosedSets.{are_apart, exchanged}
-use Rattle.command_rules.specs.Rosters.{Run}
+use Rattle.lineage_laws.proofs.Prelude.{Bool, List, Run, [], ap, arith, common_steps, false, not, option_and_then, option_map, refl, slice_get, subst, suc, sym, true, unwrap_or, zero, ℕ, ◌++◌, ◌+◌, ◌∙◌, ◌∷◌, ◌≡◌}
 use Rattle.command_rules.specs.Serial.{serial_execution}
 use Rattle.device_order.proofs.Cited.{exchanged as outcome_stays}
 use Rattle.device_order.specs.Exchanges.{SameOutcome, ShareNoDevice, is_on_device}
@@ -10,9 +10,6 @@ use Rattle.home_types.specs.declared.items.Item.TheVariants.{Back, Failed, Ran}
 use Rattle.home_types.specs.declared.items.Item.{Item}
 use Rattle.home_types.specs.declared.kinds.Kind.{Kind}
 use Rattle.home_types.specs.declared.worlds.Stand.{Stand}
-use Rattle.std.proofs.Common.{ap, arith, refl, subst, sym, ◌∙◌}
-use Rattle.std.proofs.lemmas.Grind.{common_steps}
-use Rattle.std.specs.Prelude.{Bool, List, [], false, not, option_and_then, option_map, slice_get, suc, true, unwrap_or, zero, ℕ, ◌++◌, ◌+◌, ◌∷◌, ◌≡◌}
 
 -- the items are these two, with the first at this place, and what stands before and behind them
 pub record ArePair (items : List Item) (at : ℕ) (meets : Item → Item → Bool) : Type 0 where

@@ -1,4 +1,5 @@
 mod LineOrders
+mod Prelude
 mod Statuses
 mod Exchanges
 pub mod Cited

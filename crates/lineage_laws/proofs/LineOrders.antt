@@ -1,18 +1,11 @@
 -- Why the accesses stay in the order of a line.
 use Rattle.home_types.specs.declared.numbers.RunNo.{RunNo}
-use Rattle.lineage_laws.specs.Laws.{AreInRunOrder, RunsDiffer, is_one_of_runs, next_with_access}
-use Rattle.command_rules.specs.Rosters.{run_no}
-use Rattle.lineage_table.proofs.Cited.{Pairs, pairs_from_all, pairs_front, without_none}
-use Rattle.lineage_table.specs.Accesses.{accesses_without, has_access, is_of, put_access_before, put_before_run}
-use Rattle.lineage_table.specs.declared.accesses.Access.{Access}
-use Rattle.std.proofs.Common.{Bool, List, None, Option, Some, [], ap, ap₂, arith, cond, drop, false, refl, subst, suc, sym, take, true, zero, ℕ, ◌++◌, ◌∙◌, ◌∷◌, ◌≡◌}
+use Rattle.lineage_laws.proofs.Prelude.{Access, AllByRecursion, AllPairs, AreInRunOrder, Bool, List, None, Option, RunsDiffer, Some, [], accesses_without, ap, ap₂, arith, common_steps, cond, drop, false, filter, filter-append, filter_agree, find, has_access, if◌then◌else◌, insert, is_one_of_runs, map, next_with_access, not, pairs_from_all, pairs_front, put_access_before, put_before_run, refl, run_no, subst, suc, sym, take, true, without_none, zero, ℕ, ◌&&◌, ◌++◌, ◌==◌, ◌||◌, ◌∙◌, ◌∷◌, ◌≡◌, ◌≢◌}
+use Rattle.lineage_table.proofs.Cited.{Pairs}
+use Rattle.lineage_table.specs.Accesses.{is_of}
 use Rattle.std.proofs.lemmas.Bool.{or_from, or_parts}
-use Rattle.std.proofs.lemmas.Grind.{common_steps}
-use Rattle.std.proofs.lemmas.List.Elements.{filter-append, filter_agree}
 use Rattle.std.proofs.lemmas.List.Kept.{AllPairs-filter}
 use Rattle.std.proofs.lemmas.List.{append-nil, map-append, take-append-drop}
-use Rattle.std.specs.List.{AllByRecursion, AllPairs, insert}
-use Rattle.std.specs.Prelude.{filter, find, if◌then◌else◌, map, not, ◌&&◌, ◌==◌, ◌||◌, ◌≢◌}
 
 abbrev run_of : Access → RunNo
 run_of x = x.run

@@ -1,14 +1,7 @@
 -- Why the accesses stand by their status.
-use Rattle.lineage_laws.specs.Laws.{StandByStatus}
-use Rattle.lineage_table.proofs.Cited.{Pairs, pairs_from_all}
-use Rattle.lineage_table.specs.Accesses.{AreInTurn, IsDisciplined}
-use Rattle.lineage_table.specs.declared.accesses.Access.{Access}
-use Rattle.lineage_table.specs.declared.accesses.Status.TheVariants.{Acquired, Released, Scheduled}
+use Rattle.lineage_laws.proofs.Prelude.{Access, Acquired, All-cons, All-from_recursion, All-nil, AllByRecursion, AreInTurn, IsDisciplined, List, Released, Scheduled, StandByStatus, [], ap, arith, common_steps, pairs_from_all, refl, ◌∷◌, ◌≡◌}
+use Rattle.lineage_table.proofs.Cited.{Pairs}
 use Rattle.lineage_table.specs.declared.accesses.Status.{Status}
-use Rattle.std.proofs.Common.{List, [], ap, arith, refl, ◌≡◌, ◌∷◌}
-use Rattle.std.proofs.lemmas.Grind.{common_steps}
-use Rattle.std.proofs.lemmas.List.Elements.{All-cons, All-from_recursion, All-nil}
-use Rattle.std.specs.List.{AllByRecursion}
 
 scheduled_behind : (x y : Access) → ((x.status ≡ Released) → ⊥) → AreInTurn x y → y.status ≡ Scheduled
 scheduled_behind x y n h = at x.status refl y.status refl h

@@ -1,22 +1,15 @@
 -- Runs counted at each device, in one pass over their commands.
-use Rattle.command_rules.specs.Rosters.{Run, is_on, plain_run, runs_of}
+use Rattle.lineage_table.proofs.Prelude.{Bool, List, Run, [], ap, arith, common_steps, cond, false, get_or, get_or-map, get_or-set_other, get_or-set_same, if◌then◌else◌, is_on, length, length-map, list_any, most_devices, or_right, plain_run, refl, runs_of, runs_on, subst, suc, sym, take, take_all, true, zero, ℕ, ◌+◌, ◌<◌, ◌==◌, ◌||◌, ◌∙◌, ◌∷◌, ◌≡◌, ◌≤◌}
 use Rattle.command_rules.specs.declared.rosters.Roster.{Roster}
 use Rattle.command_rules.specs.declared.rosters.RosterRun.{RosterRun}
 use Rattle.home_types.proofs.Cited.{contains_insert}
 use Rattle.home_types.specs.DeviceSets.{Devices}
-use Rattle.home_types.specs.Limits.{most_devices}
 use Rattle.home_types.specs.declared.commands.Command.{Command}
 use Rattle.lineage_table.proofs.RunSets.{differ, equal}
-use Rattle.lineage_table.specs.Lineages.{runs_on}
-use Rattle.std.proofs.Common.{List, [], ap, arith, cond, get_or, length, refl, set as set_at, subst, suc, sym, take, zero, ℕ, ◌+◌, ◌<◌, ◌∙◌, ◌∷◌, ◌≡◌, ◌≤◌}
-use Rattle.std.proofs.lemmas.Bool.{or_right}
-use Rattle.std.proofs.lemmas.Grind.{common_steps}
+use Rattle.std.proofs.Common.{set as set_at}
 use Rattle.std.proofs.lemmas.List.Sums.{count_by-le-length, sum_by_more}
-use Rattle.std.proofs.lemmas.List.{get_or-map, get_or-set_other, get_or-set_same, length-map, take_all}
 use Rattle.std.specs.FinSet as set
-use Rattle.std.specs.List.{list_any}
 use Rattle.std.specs.Ordering.{nat_cmp}
-use Rattle.std.specs.Prelude.{Bool, false, if◌then◌else◌, true, ◌==◌, ◌||◌}
 
 -- one item more
 pub any_next : {A : Type 0} (test : A → Bool) (xs : List A) (i : ℕ) (d : A) → i < length xs → list_any test (take (i + 1) xs) ≡ (list_any test (take i xs) || test (get_or xs i d))

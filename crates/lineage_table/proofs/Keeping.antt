@@ -2,26 +2,16 @@
 use Rattle.home_types.specs.declared.commands.View.{View}
 use Rattle.lineage_table.proofs.Pairs.{Pairs, all_from_pairs, every_so, pairs_back, pairs_changed, pairs_from_all, pairs_front, pairs_put}
 use Rattle.lineage_table.proofs.Splits.{Cut, any_access, access_at, behind_at, before_at, change_at, cut_at, put_at, without_at, without_none}
-use Rattle.lineage_table.specs.Accesses.{AreInTurn, AreOfTwoRuns, IsDisciplined, access_of, accesses_before, accesses_behind, accesses_without, has_access, is_acquired, is_of, is_released, is_scheduled, place_before, put_access_before, put_before_run, run_behind, some_acquired, some_scheduled, status_of, with_change, written_by}
+use Rattle.lineage_table.proofs.Prelude.{Access, Acquired, AllByRecursion, AllPairs, AreInTurn, AreOfTwoRuns, Bool, IsDisciplined, IsSome, IsTrue, LineageState, List, None, Option, Released, RunNo, Scheduled, Some, [], access_of, accesses_before, accesses_behind, accesses_without, add-one, ap, append-nil, ap₂, arith, both_ways, common_steps, drop, drop_at, false, get_or, get_or_at, has_access, if◌then◌else◌, inl, inr, insert, is_acquired, is_of, is_released, is_scheduled, is_some, length, nat_lt, not, option_and_then, option_map, or_from, or_parts, or_right, place_before, position, position_or_len, put_access_before, put_before_run, refl, remove, removed, rules, run_behind, scheduled, set, set_at, settled, slice_get, slice_set, some_acquired, some_scheduled, status_of, subst, suc, sym, take, take-append-drop, take_at, take_more, true, unwrap_or, with_change, written_by, zero, ℕ, ◌++◌, ◌+◌, ◌-◌, ◌<◌, ◌||◌, ◌∙◌, ◌∷◌, ◌≡◌, ◌≤◌}
 use Rattle.lineage_table.specs.Answers.{MayAnswer}
 use Rattle.lineage_table.specs.contracts.accesses.StatusPartialEq.TheImpl.{eq-value}
-use Rattle.lineage_table.specs.declared.accesses.Access.{Access}
-use Rattle.lineage_table.specs.declared.accesses.Status.TheVariants.{Acquired, Released, Scheduled}
 use Rattle.lineage_table.specs.declared.accesses.Status.{Status}
-use Rattle.home_types.specs.declared.numbers.RunNo.{RunNo}
-use Rattle.lineage_table.specs.Lineages.{LineageState, removed, scheduled, settled}
-use Rattle.std.proofs.lemmas.Bool.{both_ways, or_from, or_parts, or_right}
 use Rattle.std.specs.Option.{ForSome}
 use Rattle.std.proofs.lemmas.List.Kept.{AllPairs-filter}
 use Rattle.std.proofs.lemmas.List.Quantifiers.{position-Some}
-use Rattle.std.proofs.Common.{rules, ◌-◌, Bool, IsSome, IsTrue, List, None, Option, Some, [], add-one, ap, ap₂, arith, drop, false, get_or, inl, inr, length, refl, set, subst, suc, sym, take, true, zero, ℕ, ◌++◌, ◌+◌, ◌<◌, ◌∙◌, ◌≤◌, ◌∷◌, ◌≡◌}
-use Rattle.std.proofs.lemmas.Grind.{common_steps}
 use Rattle.std.proofs.lemmas.List.Edits.{insert_end, length-remove}
 use Rattle.std.proofs.lemmas.List.Folds.{list_any-append}
 use Rattle.std.proofs.lemmas.Option.{slice_get-get_or, slice_get_past}
-use Rattle.std.proofs.lemmas.List.{append-nil, drop_at, get_or_at, set_at, take-append-drop, take_at, take_more}
-use Rattle.std.specs.List.{position_or_len, AllByRecursion, AllPairs, insert, remove}
-use Rattle.std.specs.Prelude.{not, nat_lt, if◌then◌else◌, is_some, option_and_then, option_map, position, slice_get, unwrap_or, slice_set, ◌||◌}
 
 -- Places
 

@@ -1,11 +1,5 @@
 -- A table stays one when the lineage of a device changes.
-use Rattle.home_types.specs.Limits.{most_devices}
-use Rattle.lineage_table.specs.Accesses.{IsDisciplined}
-use Rattle.lineage_table.specs.Lineages.{IsTable, LineageState, accesses_at, no_lineage}
-use Rattle.std.proofs.Common.{List, get_or, length, refl, set, subst, sym, ℕ, ◌<◌, ◌≡◌, ◌∙◌}
-use Rattle.std.proofs.lemmas.Bool.{eqb-false, eqb-true}
-use Rattle.std.proofs.lemmas.List.{get_or-set_other, get_or-set_same, length-set}
-use Rattle.std.specs.Prelude.{Bool, false, true, ◌==◌, ◌≤◌}
+use Rattle.lineage_table.proofs.Prelude.{Bool, IsDisciplined, IsTable, LineageState, List, accesses_at, eqb-false, eqb-true, false, get_or, get_or-set_other, get_or-set_same, length, length-set, most_devices, no_lineage, refl, set, subst, sym, true, ℕ, ◌<◌, ◌==◌, ◌∙◌, ◌≡◌, ◌≤◌}
 
 -- the lineage that is there afterwards keeps its accesses in turn, as each lineage does
 pub table_set : (table now : List LineageState) (d : ℕ) (s x : LineageState) → IsTable table → table ≡ now → d < length now → x ≡ get_or (set table d s) d x → IsDisciplined x.accesses → IsTable (set table d s)

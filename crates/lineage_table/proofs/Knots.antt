@@ -1,20 +1,11 @@
 -- The access of a run in a chain, and what a call of the chain makes of the accesses.
 use Rattle.chain_arena.proofs.Cited.{apart_front, apart_rest, from_cut, has_cut, length_values, put_cut, set_cut, value_cut, values_cut, values_join, without_cut}
-use Rattle.chain_arena.specs.Chains.{AreApart, IsBehind, from_knot, has_knot, is_at, put_before, rest_of, set_value, value_at, values_of, without}
+use Rattle.lineage_table.proofs.Prelude.{Access, AllByRecursion, AreApart, AreOfTwoRuns, Bool, CutAtKnot, IsBehind, Knot, List, None, Option, Some, [], access_of, accesses_before, accesses_behind, ap, append_assoc, arith, common_steps, cond, drop, drop_at, false, fold, from_knot, get_or, get_or_at, has_access, has_knot, if◌then◌else◌, is_at, is_of, is_scheduled, is_some, length, length-append, lt-ltb, nat_lt, or_from, position, position_or_len, put_before, put_before_run, refl, rest_of, set, set_at, set_value, slice_get, some_scheduled, subst, sym, true, true≢false, value_at, values_of, without, ℕ, ◌++◌, ◌+◌, ◌<◌, ◌==◌, ◌||◌, ◌∙◌, ◌∷◌, ◌≡◌}
 use Rattle.chain_arena.specs.Linked.{knot}
-use Rattle.chain_arena.specs.declared.knots.Knot.{Knot}
 use Rattle.lineage_table.proofs.Keeping.{has_place, remove_parts}
 use Rattle.lineage_table.proofs.Pairs.{Pairs}
 use Rattle.lineage_table.proofs.Splits.{access_at, before_at, behind_at, put_at}
-use Rattle.lineage_table.specs.Accesses.{AreOfTwoRuns, access_of, accesses_before, accesses_behind, has_access, is_of, is_scheduled, put_before_run, some_scheduled}
-use Rattle.lineage_table.specs.Knots.{CutAtKnot}
-use Rattle.lineage_table.specs.declared.accesses.Access.{Access}
-use Rattle.std.proofs.Common.{List, None, Option, Some, [], ap, append_assoc, arith, cond, drop, false, get_or, insert, is_some, length, length-append, lt-ltb, nat_lt, position, refl, remove, set, subst, sym, true, true≢false, ℕ, ◌++◌, ◌+◌, ◌<◌, ◌∙◌, ◌∷◌, ◌≡◌}
-use Rattle.std.proofs.lemmas.Grind.{common_steps}
-use Rattle.std.proofs.lemmas.List.{drop_at, get_or_at, set_at}
-use Rattle.std.proofs.lemmas.Bool.{or_from}
-use Rattle.std.specs.List.{AllByRecursion, position_or_len}
-use Rattle.std.specs.Prelude.{Bool, fold, if◌then◌else◌, slice_get, ◌==◌, ◌||◌}
+use Rattle.std.proofs.Common.{insert, remove}
 
 first_at : (r : ℕ) (a : List Access) (x : Access) (b : List Access) → has_access r a ≡ false → is_of r x ≡ true → position_or_len (is_of r) (a ++ x ∷ b) ≡ length a
 first_at r [] x b n o = grind (arith, common_steps)

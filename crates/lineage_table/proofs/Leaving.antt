@@ -1,15 +1,8 @@
 -- The sets of the runs whose accesses leave, as one goes over a chain.
-use Rattle.chain_arena.specs.Chains.{values_of}
-use Rattle.chain_arena.specs.declared.knots.Knot.{Knot}
+use Rattle.lineage_table.proofs.Prelude.{Access, HasLess, Knot, List, [], accesses_before, ap, arith, common_steps, false, has_access, is_of, sym, true, values_of, ℕ, ◌++◌, ◌==◌, ◌||◌, ◌∙◌, ◌∷◌, ◌≡◌}
 use Rattle.home_types.specs.DeviceSets.{Devices}
 use Rattle.lineage_table.proofs.Knots.{before_cut, seen_has, seen_list, seen_none}
 use Rattle.lineage_table.proofs.RunSets.{less_more}
-use Rattle.lineage_table.specs.Accesses.{accesses_before, has_access, is_of}
-use Rattle.lineage_table.specs.RunDevices.{HasLess}
-use Rattle.lineage_table.specs.declared.accesses.Access.{Access}
-use Rattle.std.proofs.Common.{List, [], ap, arith, false, sym, true, ℕ, ◌++◌, ◌∙◌, ◌∷◌, ◌≡◌}
-use Rattle.std.proofs.lemmas.Grind.{common_steps}
-use Rattle.std.specs.Prelude.{◌==◌, ◌||◌}
 
 same_run : (r : ℕ) (x : Access) → is_of r x ≡ true → x.run.0 ≡ r
 same_run r x own = grind (arith, common_steps)

@@ -1,4 +1,5 @@
 mod Pairs
+mod Prelude
 mod Splits
 mod Keeping
 mod Knots

@@ -1,8 +1,7 @@
 -- Pairs of a list, the one in front and the one behind it.
-use Rattle.std.proofs.Common.{List, [], arith, suc, ◌++◌, ◌∷◌}
+use Rattle.lineage_table.proofs.Prelude.{AllByRecursion, AllPairs, List, [], arith, suc, ◌++◌, ◌∷◌}
 use Rattle.std.proofs.lemmas.List.Elements.{All-from_recursion, recursion_from_All}
 use Rattle.std.proofs.lemmas.List.Kept.{AllPairs-cons}
-use Rattle.std.specs.List.{AllByRecursion, AllPairs}
 
 -- each element with each that stands behind it
 unfoldable pub Pairs : {A : Type 0} → (A → A → Type 0) → List A → Type 0

@@ -1,17 +1,10 @@
 -- Which runs have an access, as the accesses to a device change.
 use Rattle.home_types.specs.declared.commands.View.{View}
-use Rattle.home_types.specs.declared.numbers.RunNo.{RunNo}
+use Rattle.lineage_table.proofs.Prelude.{Access, AreOfTwoRuns, Bool, IsDisciplined, IsTrue, LineageState, List, None, Option, RunNo, Some, [], access_of, accesses_before, accesses_behind, accesses_without, and_right, ap, arith, common_steps, false, get_or, has_access, if◌then◌else◌, is_of, is_some, length, not, put_access_before, put_before_run, refl, sym, take, true, with_change, ℕ, ◌&&◌, ◌++◌, ◌+◌, ◌<◌, ◌==◌, ◌||◌, ◌∙◌, ◌∷◌, ◌≡◌}
 use Rattle.lineage_table.proofs.DeviceCounts.{any_next}
 use Rattle.lineage_table.proofs.Keeping.{none_behind}
 use Rattle.lineage_table.proofs.Pairs.{Pairs, pairs_from_all}
-use Rattle.lineage_table.specs.Accesses.{AreOfTwoRuns, IsDisciplined, access_of, accesses_before, accesses_behind, accesses_without, has_access, is_of, put_access_before, put_before_run, with_change}
 use Rattle.lineage_table.specs.Answers.{answered_access, answered_if}
-use Rattle.lineage_table.specs.Lineages.{LineageState}
-use Rattle.lineage_table.specs.declared.accesses.Access.{Access}
-use Rattle.std.proofs.Common.{List, None, Option, Some, [], ap, arith, get_or, length, refl, sym, take, ℕ, ◌++◌, ◌+◌, ◌<◌, ◌∙◌, ◌∷◌, ◌≡◌}
-use Rattle.std.proofs.lemmas.Bool.{and_right}
-use Rattle.std.proofs.lemmas.Grind.{common_steps}
-use Rattle.std.specs.Prelude.{Bool, IsTrue, false, if◌then◌else◌, is_some, not, true, ◌&&◌, ◌==◌, ◌||◌}
 
 -- an access is changed, and stays its run's
 pub change_has : (q r : ℕ) (f : Access → Access) (xs : List Access) → ((x : Access) → (f x).run.0 ≡ x.run.0) → has_access q (with_change r f xs) ≡ has_access q xs

@@ -2,16 +2,10 @@
 use Rattle.home_types.specs.DeviceSets.{Devices}
 use Rattle.home_types.proofs.Cited.{contains_insert, contains_remove}
 use Rattle.lineage_table.proofs.KeptTables.{table_set}
-use Rattle.lineage_table.specs.Accesses.{IsDisciplined, has_access}
-use Rattle.lineage_table.specs.Lineages.{LineageState, accesses_at, lineage_at, no_lineage, with_more_room}
-use Rattle.lineage_table.specs.RunDevices.{HasLess, HasMore, TableIsSound, is_in}
-use Rattle.std.proofs.Common.{List, [], ap, arith, get_or, length, refl, set as set_at, subst, suc, sym, zero, ℕ, ◌++◌, ◌+◌, ◌<◌, ◌∙◌, ◌∷◌, ◌≡◌, ◌≢◌}
-use Rattle.std.proofs.lemmas.Bool.{eq-eqb}
-use Rattle.std.proofs.lemmas.Grind.{common_steps}
-use Rattle.std.proofs.lemmas.List.{get_or-set_other, get_or-set_same, length-set}
+use Rattle.lineage_table.proofs.Prelude.{Bool, Err, HasLess, HasMore, IsDisciplined, LineageState, List, Ok, OnErr, OnOk, Result, TableIsSound, [], accesses_at, ap, arith, common_steps, eq-eqb, false, get_or, get_or-set_other, get_or-set_same, has_access, if◌then◌else◌, is_in, length, length-set, lineage_at, nat_lt, no_lineage, not, refl, subst, suc, sym, true, with_more_room, zero, ℕ, ◌&&◌, ◌++◌, ◌+◌, ◌<◌, ◌==◌, ◌||◌, ◌∙◌, ◌∷◌, ◌≡◌, ◌≢◌, ◌≤◌}
+use Rattle.std.proofs.Common.{set as set_at}
 use Rattle.std.specs.FinSet as set
 use Rattle.std.specs.Ordering.{nat_cmp}
-use Rattle.std.specs.Prelude.{nat_lt, Bool, Err, Ok, OnErr, OnOk, Result, false, if◌then◌else◌, not, true, ◌&&◌, ◌==◌, ◌||◌, ◌≤◌}
 
 pub equal : (x y : ℕ) → (x == y) ≡ true → x ≡ y
 equal x y h = grind (arith, common_steps)

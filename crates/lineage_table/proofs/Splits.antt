@@ -1,13 +1,6 @@
 -- The words on accesses, where the list is cut at a run's access.
-use Rattle.lineage_table.specs.Accesses.{access_of, accesses_before, accesses_behind, accesses_without, has_access, is_of, put_before_run, with_change}
-use Rattle.command_rules.specs.Rosters.{run_no}
-use Rattle.lineage_table.specs.declared.accesses.Access.{Access}
-use Rattle.lineage_table.specs.declared.accesses.Status.TheVariants.{Released}
-use Rattle.std.proofs.Common.{List, None, Some, [], ap, arith, false, get_or, length, refl, suc, true, zero, ℕ, ◌++◌, ◌<◌, ◌∷◌, ◌≡◌}
-use Rattle.std.proofs.lemmas.Bool.{or_from}
-use Rattle.std.proofs.lemmas.Grind.{common_steps}
+use Rattle.lineage_table.proofs.Prelude.{Access, List, None, Released, Some, [], access_of, accesses_before, accesses_behind, accesses_without, ap, arith, common_steps, false, get_or, has_access, is_of, length, or_from, position, put_before_run, refl, run_no, suc, true, with_change, zero, ℕ, ◌++◌, ◌<◌, ◌∷◌, ◌≡◌}
 use Rattle.std.proofs.lemmas.List.Quantifiers.{position-Some}
-use Rattle.std.specs.Prelude.{position}
 
 abbrev pub any_access : Access
 any_access = record { run = run_no 0; status = Released; view = None; wrote = None; from = 0; to = 0 }

@@ -1,14 +1,6 @@
 -- The value that stands, and whose it is.
-use Rattle.command_rules.specs.Rosters.{run_no}
-use Rattle.home_types.specs.declared.numbers.RunNo.{RunNo}
+use Rattle.lineage_table.proofs.Prelude.{Access, AllByRecursion, AreOfTwoRuns, Bool, IsDisciplined, IsSome, List, None, Option, RunNo, Some, [], access_of, accesses_behind, accesses_without, ap, arith, both_ways, common_steps, effective_writer, false, fold, has_access, if◌then◌else◌, is_of, is_some, not, option_and_then, option_map, or_left, or_right, refl, run_no, subst, sym, true, unwrap_or, value_standing, with_change, written_by, ℕ, ◌==◌, ◌||◌, ◌∙◌, ◌∷◌, ◌≡◌, ◌≢◌}
 use Rattle.lineage_table.proofs.Pairs.{Pairs, pairs_from_all}
-use Rattle.std.proofs.lemmas.Bool.{both_ways, or_left, or_right}
-use Rattle.std.specs.List.{AllByRecursion}
-use Rattle.lineage_table.specs.Accesses.{AreOfTwoRuns, IsDisciplined, has_access, access_of, accesses_behind, effective_writer, is_of, value_standing, with_change, accesses_without, written_by}
-use Rattle.lineage_table.specs.declared.accesses.Access.{Access}
-use Rattle.std.proofs.Common.{◌∙◌, Bool, IsSome, ap, subst, List, None, Option, Some, [], arith, false, refl, sym, true, ℕ, ◌∷◌, ◌≡◌}
-use Rattle.std.proofs.lemmas.Grind.{common_steps}
-use Rattle.std.specs.Prelude.{fold, if◌then◌else◌, is_some, not, option_and_then, option_map, unwrap_or, ◌==◌, ◌≢◌, ◌||◌}
 
 -- where the run's access is passed over
 pub passing_stands : (r c : ℕ) (xs : List Access) → fold (λ value x. if is_of r x then value else unwrap_or x.wrote value) c xs ≡ value_standing c (accesses_without r xs)

@@ -1,12 +1,7 @@
 -- What a step of the hub does with a list of accesses that is cut at a run's access.
 use Rattle.home_types.specs.declared.commands.View.{View}
 use Rattle.lineage_table.proofs.Splits.{access_at, change_at}
-use Rattle.lineage_table.specs.Accesses.{has_access, is_acquired, is_of, some_acquired, status_of, with_change, written_by}
-use Rattle.lineage_table.specs.declared.accesses.Access.{Access}
-use Rattle.lineage_table.specs.declared.accesses.Status.TheVariants.{Acquired, Released}
-use Rattle.std.proofs.Common.{List, Some, [], ap, arith, false, true, ℕ, ◌++◌, ◌∙◌, ◌∷◌, ◌≡◌}
-use Rattle.std.proofs.lemmas.Grind.{common_steps}
-use Rattle.std.specs.Prelude.{option_and_then, option_map}
+use Rattle.lineage_table.proofs.Prelude.{Access, Acquired, List, Released, Some, [], ap, arith, common_steps, false, has_access, is_acquired, is_of, option_and_then, option_map, some_acquired, status_of, true, with_change, written_by, ℕ, ◌++◌, ◌∙◌, ◌∷◌, ◌≡◌}
 
 -- what is read at the cut
 

@@ -2,14 +2,7 @@
 use Rattle.lineage_table.proofs.Keeping.{found_by_value, has_place, nothing_removed}
 use Rattle.lineage_table.proofs.RunAccesses.{found_has}
 use Rattle.lineage_table.proofs.Standing.{effective_stands}
-use Rattle.lineage_table.specs.Accesses.{IsDisciplined, access_of, effective_writer, has_access, is_of}
-use Rattle.lineage_table.specs.Lineages.{LineageState, accesses_at, committed_lineage, lineage_at, no_lineage, removed, with_lineage}
-use Rattle.lineage_table.specs.declared.accesses.Access.{Access}
-use Rattle.home_types.specs.declared.numbers.RunNo.{RunNo}
-use Rattle.std.proofs.Common.{IsSome, List, None, Option, Some, ap, arith, length, refl, subst, sym, ℕ, ◌+◌, ◌<◌, ◌∙◌, ◌≡◌, ◌≢◌, ◌≤◌}
-use Rattle.std.proofs.lemmas.Grind.{common_steps}
-use Rattle.std.proofs.lemmas.List.{get_or-set_other, get_or-set_same, length-set}
-use Rattle.std.specs.Prelude.{Bool, false, is_some, nat_lt, option_map, position, true, unwrap_or, ◌==◌}
+use Rattle.lineage_table.proofs.Prelude.{Access, Bool, IsDisciplined, IsSome, LineageState, List, None, Option, RunNo, Some, access_of, accesses_at, ap, arith, committed_lineage, common_steps, effective_writer, false, get_or-set_other, get_or-set_same, has_access, is_of, is_some, length, length-set, lineage_at, nat_lt, no_lineage, option_map, position, refl, removed, subst, sym, true, unwrap_or, with_lineage, ℕ, ◌+◌, ◌<◌, ◌==◌, ◌∙◌, ◌≡◌, ◌≢◌, ◌≤◌}
 
 -- the devices below this number are changed, and no other
 pub record ChangedUpTo (change : ℕ → LineageState → LineageState) (first now : List LineageState) (from : ℕ) : Type 0 where

@@ -1,12 +1,8 @@
 -- An undo, and what was written: its value no longer counts, as if the run had no access.
-use Rattle.home_types.specs.declared.numbers.RunNo.{RunNo}
+use Rattle.lineage_table.proofs.Prelude.{Access, AreOfTwoRuns, Bool, IsDisciplined, List, None, Option, RunNo, Some, [], accesses_without, ap, effective_writer, false, fold, if◌then◌else◌, is_of, is_some, not, refl, sym, true, with_change, ℕ, ◌∙◌, ◌∷◌, ◌≡◌}
 use Rattle.lineage_table.proofs.Keeping.{none_behind}
 use Rattle.lineage_table.proofs.Pairs.{Pairs, pairs_from_all}
 use Rattle.lineage_table.proofs.Splits.{without_none}
-use Rattle.lineage_table.specs.Accesses.{AreOfTwoRuns, IsDisciplined, accesses_without, effective_writer, is_of, with_change}
-use Rattle.lineage_table.specs.declared.accesses.Access.{Access}
-use Rattle.std.proofs.Common.{◌∙◌, Bool, ap, List, None, Option, Some, [], false, refl, sym, true, ℕ, ◌∷◌, ◌≡◌}
-use Rattle.std.specs.Prelude.{fold, if◌then◌else◌, is_some, not}
 
 -- what goes by written values alone goes by the undone list as by the list without the run
 pub passes_undone : {B : Type 0} (g : B → Access → B) → ((b : B) (x : Access) → x.wrote ≡ None → g b x ≡ b) → (r : ℕ) (b : B) (xs : List Access) → Pairs AreOfTwoRuns xs

@@ -1,23 +1,14 @@
 -- The effective writer, as the accesses of a lineage change.
-use Rattle.command_rules.specs.Rosters.{run_no}
-use Rattle.home_types.specs.declared.numbers.RunNo.{RunNo}
+use Rattle.lineage_table.proofs.Prelude.{Access, AllPairs, AreOfTwoRuns, Bool, IsDisciplined, IsTrue, LineageState, List, None, Option, RunNo, Some, [], accesses_behind, ap, arith, both_ways, common_steps, drop, effective_writer, false, get_or, has_access, if◌then◌else◌, insert, is_of, is_some, not, option_and_then, place_before, position, put_access_before, put_before_run, refl, remove, run_no, slice_set, subst, sym, true, value_standing, with_change, written_by, ℕ, ◌++◌, ◌+◌, ◌==◌, ◌∙◌, ◌∷◌, ◌≡◌}
 use Rattle.lineage_table.proofs.Keeping.{access_there, behind_drop, changed_items, none_behind, put_place, read_there, rest, without_remove}
 use Rattle.lineage_table.proofs.Pairs.{pairs_from_all}
 use Rattle.lineage_table.proofs.Splits.{Cut, any_access, behind_at, change_at, cut_at}
 use Rattle.lineage_table.proofs.Standing.{change_folds, committed_stands, effective_stands, has_written, is_writer, without_writer, writer_earlier, writer_from, writer_later}
 use Rattle.lineage_table.proofs.Steps.{written_at}
 use Rattle.lineage_table.proofs.Undoing.{undone_writer}
-use Rattle.lineage_table.specs.Accesses.{AreOfTwoRuns, IsDisciplined, accesses_behind, effective_writer, has_access, is_of, place_before, put_access_before, put_before_run, value_standing, with_change, written_by}
 use Rattle.lineage_table.specs.KeptWriters.{IsSoundLineage}
-use Rattle.lineage_table.specs.Lineages.{LineageState}
-use Rattle.lineage_table.specs.declared.accesses.Access.{Access}
-use Rattle.std.proofs.Common.{Bool, IsTrue, List, None, Option, Some, [], ap, arith, drop, false, get_or, refl, subst, sym, true, ℕ, ◌++◌, ◌+◌, ◌∙◌, ◌∷◌, ◌≡◌}
-use Rattle.std.proofs.lemmas.Bool.{both_ways}
-use Rattle.std.proofs.lemmas.Grind.{common_steps}
 use Rattle.std.proofs.lemmas.List.Sums.{fold-append}
-use Rattle.std.specs.List.{AllPairs, insert, remove}
 use Rattle.std.specs.Option.{option_eq}
-use Rattle.std.specs.Prelude.{if◌then◌else◌, is_some, not, option_and_then, position, slice_set, ◌==◌}
 
 -- a change that keeps the run and the written value keeps it
 pub change_writer : (r : ℕ) (f : Access → Access) → ((x : Access) → (f x).wrote ≡ x.wrote) → ((x : Access) → (f x).run ≡ x.run) → (xs : List Access) → effective_writer (with_change r f xs) ≡ effective_writer xs

@@ -1,18 +1,10 @@
 -- The runs of a script's last window, and one run more.
-use Rattle.home_types.specs.Listed.{Listed}
-use Rattle.home_types.specs.declared.numbers.RunNo.{RunNo}
+use Rattle.live_scripts.proofs.Prelude.{HasRun, IfSome, List, Listed, None, Option, RunNo, RunText, Script, Some, WindowText, [], ap, arith, first_against_run, length, length-append, length-map, map, map-append, new_run, option_map, slice_get, subst, sym, unwrap_or, ℕ, ◌++◌, ◌+◌, ◌-◌, ◌<◌, ◌∙◌, ◌∷◌, ◌≡◌, ◌≤◌}
 use Rattle.live_scripts.proofs.GrowthSound.{earlier_is}
 use Rattle.live_scripts.proofs.Refusing.{few_and_earlier, free_in, get_last, known_routine}
-use Rattle.live_scripts.specs.Growth.{HasRun, first_against_run, new_run}
 use Rattle.routine_reader.specs.Rosters.{kinds_of, run_of_text, script_runs}
 use Rattle.routine_reader.specs.declared.scripts.DeviceText.{DeviceText}
 use Rattle.routine_reader.specs.declared.scripts.RoutineText.{RoutineText}
-use Rattle.routine_reader.specs.declared.scripts.RunText.{RunText}
-use Rattle.routine_reader.specs.declared.scripts.Script.{Script}
-use Rattle.routine_reader.specs.declared.scripts.WindowText.{WindowText}
-use Rattle.std.proofs.Common.{ap, arith, subst, sym, ◌∙◌}
-use Rattle.std.proofs.lemmas.List.{length-append, length-map, map-append}
-use Rattle.std.specs.Prelude.{IfSome, List, None, Option, Some, [], length, map, option_map, slice_get, unwrap_or, ℕ, ◌++◌, ◌+◌, ◌-◌, ◌<◌, ◌∷◌, ◌≡◌, ◌≤◌}
 
 -- the window that is the last one has this number
 last_number : (windows front : List WindowText) (window : WindowText) (k : ℕ) → windows ≡ front ++ window ∷ [] → length windows ≡ k + 1 → slice_get windows k ≡ Some window

@@ -2,20 +2,12 @@
 use Rattle.day_clock.specs.Times.{IsCivilTime}
 use Rattle.day_clock.specs.declared.times.When.{When}
 use Rattle.home_types.proofs.Cited.{snoc_get}
-use Rattle.home_types.specs.Listed.{Listed}
-use Rattle.home_types.specs.declared.numbers.RunNo.{RunNo}
-use Rattle.live_scripts.specs.Growth.{HasBegun, IsNewWindow, is_earlier, is_later_after, new_run, windows_before}
+use Rattle.live_scripts.proofs.Prelude.{All, Bool, Err, HasBegun, IfErr, IfOk, IfSome, IsNewWindow, List, Listed, None, Ok, Option, Result, RunNo, RunText, Script, Some, WindowText, [], ap, arith, false, if◌then◌else◌, inl, inr, is_earlier, is_later_after, length, length-append, length-map, map, map-append, nat_le, nat_lt, new_run, refl, rules, slice_get, subst, suc, sym, true, windows_before, zero, ℕ, ◌&&◌, ◌++◌, ◌+◌, ◌-◌, ◌<◌, ◌∙◌, ◌∷◌, ◌≡◌, ◌≤◌}
 use Rattle.live_scripts.specs.declared.refusals.NotAdded.{NotAdded}
 use Rattle.live_scripts.specs.declared.refusals.NotBegun.{NotBegun}
 use Rattle.routine_reader.specs.Scripts.{PlainWindow, plain_routine, plain_script, plain_window}
 use Rattle.routine_reader.specs.Sound.{AreInOrder, IsBefore, IsSound, IsSoundRun, IsSoundWindow}
-use Rattle.routine_reader.specs.declared.scripts.RunText.{RunText}
-use Rattle.routine_reader.specs.declared.scripts.Script.{Script}
-use Rattle.routine_reader.specs.declared.scripts.WindowText.{WindowText}
-use Rattle.std.proofs.Common.{ap, arith, inl, inr, refl, rules, subst, sym, ◌∙◌}
 use Rattle.std.proofs.lemmas.List.Elements.{All-append, All-nil}
-use Rattle.std.proofs.lemmas.List.{length-append, length-map, map-append}
-use Rattle.std.specs.Prelude.{All, Bool, Err, IfErr, IfOk, IfSome, List, None, Ok, Option, Result, Some, [], false, if◌then◌else◌, length, map, nat_le, nat_lt, slice_get, suc, true, zero, ℕ, ◌&&◌, ◌++◌, ◌+◌, ◌-◌, ◌<◌, ◌∷◌, ◌≡◌, ◌≤◌}
 
 -- Lists with an item more
 

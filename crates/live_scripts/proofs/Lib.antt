@@ -1,4 +1,5 @@
 pub mod Cited
 mod GrownRuns
 mod GrowthSound
+mod Prelude
 mod Refusing

@@ -1,12 +1,6 @@
 -- What is against a run of the last window is against one of the script.
-use Rattle.home_types.specs.declared.numbers.RunNo.{RunNo}
-use Rattle.live_scripts.specs.Growth.{HasRoomForRun, first_against_run, first_in_last, first_in_window, is_earlier}
+use Rattle.live_scripts.proofs.Prelude.{Bool, HasRoomForRun, IfSome, List, None, Option, RunNo, Script, Some, WindowText, [], ap, arith, false, first_against_run, first_in_last, first_in_window, if◌then◌else◌, is_earlier, length, length-append, nat_le, refl, rules, slice_get, subst, sym, true, ℕ, ◌++◌, ◌+◌, ◌-◌, ◌<◌, ◌∙◌, ◌∷◌, ◌≡◌}
 use Rattle.live_scripts.specs.declared.refusals.NotAdded.TheVariants.{NoRoutine, NotBefore, TooManyRuns}
-use Rattle.routine_reader.specs.declared.scripts.Script.{Script}
-use Rattle.routine_reader.specs.declared.scripts.WindowText.{WindowText}
-use Rattle.std.proofs.Common.{ap, arith, refl, rules, subst, sym, ◌∙◌}
-use Rattle.std.proofs.lemmas.List.{length-append}
-use Rattle.std.specs.Prelude.{Bool, IfSome, List, None, Option, Some, [], false, if◌then◌else◌, length, nat_le, slice_get, true, ℕ, ◌++◌, ◌+◌, ◌-◌, ◌<◌, ◌∷◌, ◌≡◌}
 
 pub get_last : {A : Type 0} (xs : List A) (y : A) → slice_get (xs ++ y ∷ []) (length xs) ≡ Some y
 get_last [] y = refl

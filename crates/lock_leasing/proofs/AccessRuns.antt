@@ -1,22 +1,7 @@
 -- Which runs have an access: each with more to do on the device that is not doomed, and each live one with the effective write there.
-use Rattle.command_rules.specs.Items.{is_ran, of_run}
-use Rattle.history_book.proofs.Cited.{StandsOnce, map_some, stands_in}
-use Rattle.history_book.specs.Readings.{Reading, is_live, is_open}
-use Rattle.history_book.specs.Settings.{Setting}
-use Rattle.home_types.specs.declared.items.Item.TheVariants.{Back, Failed, Ran}
-use Rattle.home_types.specs.declared.items.Item.{Item}
+use Rattle.lock_leasing.proofs.Prelude.{Back, Bool, Failed, Grips, Item, List, None, Option, Ran, Reading, Setting, Some, StandsOnce, Write, [], ap, arith, common_steps, cond, count_by, covers, effective_write, false, fold, has_effect, if◌then◌else◌, is_live, is_open, is_ran, is_some, is_touched, is_undone, list_any, map_some, not, of_run, open_runs_are_last, option_map, option_or, point, refl, stands_in, subst, sum_by-cons, sym, true, unwrap_or, uses, write_of, ℕ, ⊤, ◌&&◌, ◌+◌, ◌==◌, ◌||◌, ◌∙◌, ◌∷◌, ◌≡◌, ◌≤◌}
 use Rattle.lock_leasing.proofs.Effects.{effect_is}
 use Rattle.lock_leasing.proofs.Facts.{Facts, committed_stays, pending_uses, written_did, written_uses}
-use Rattle.lock_leasing.specs.Configurations.{Grips, point}
-use Rattle.lock_leasing.specs.Order.{covers, is_touched, open_runs_are_last}
-use Rattle.lock_leasing.specs.Tables.{uses}
-use Rattle.lock_leasing.specs.Words.{Write, effective_write, has_effect, is_undone, write_of}
-use Rattle.std.proofs.Common.{ap, arith, cond, refl, subst, sym, ◌∙◌}
-use Rattle.std.proofs.lemmas.Grind.{common_steps}
-use Rattle.std.proofs.lemmas.List.Sums.{sum_by-cons}
-use Rattle.std.specs.List.{list_any}
-use Rattle.std.specs.Option.{option_or}
-use Rattle.std.specs.Prelude.{Bool, List, None, Option, Some, [], count_by, false, fold, if◌then◌else◌, is_some, not, option_map, true, unwrap_or, ℕ, ⊤, ◌&&◌, ◌+◌, ◌==◌, ◌||◌, ◌∷◌, ◌≡◌, ◌≤◌}
 
 -- each item is so, with what stands behind it
 abbrev pub EachTail : (Item → List Item → Type 0) → List Item → Type 0

@@ -1,31 +1,9 @@
 -- The first place, as parts that belong to one window tell it.
-use Rattle.command_rules.specs.Items.{is_ran, of_run}
-use Rattle.command_rules.specs.Rosters.{commands_of, followed_by, follows, is_on, touches}
-use Rattle.history_book.proofs.Cited.{end_is, stands_in}
-use Rattle.history_book.specs.Books.{end_of}
-use Rattle.history_book.specs.Readings.{OfRun, Reading, is_committed, is_committing, is_live}
-use Rattle.history_book.specs.Settings.{Setting, device_numbers, devices_of}
-use Rattle.history_book.specs.declared.entries.Kept.{Kept}
-use Rattle.home_types.specs.declared.commands.Command.{Command}
-use Rattle.home_types.specs.declared.items.Item.TheVariants.{Back, Failed, Ran}
-use Rattle.home_types.specs.declared.items.Item.{Item}
-use Rattle.home_types.specs.declared.numbers.RunNo.{RunNo}
+use Rattle.lock_leasing.proofs.Prelude.{Back, Bool, Command, Failed, Grips, IsRosterFor, Item, Kept, List, Mark, None, OfRun, Option, Ran, Reading, RunNo, Setting, Some, WindowParts, [], ap, ap₂, arith, binds, commands_of, common_steps, cond, device_numbers, devices_of, end_is, end_of, false, filter, followed_by, follows, front_in_line, front_of, has_ended, has_touched, if◌then◌else◌, is_committed, is_committing, is_live, is_none, is_on, is_ran, is_some, item_has_touched, items_of, last_counted, last_in_line, last_place, length, list_any, max, not, of_run, option_map, point, point_of, range_with_len, read_of, refl, slice_get, stands_in, suc, sym, touches, true, unwrap_or, up_to, up_to_committed, up_to_either, up_to_first, up_to_followed, up_to_last, up_to_touched, zero, ℕ, ◌&&◌, ◌+◌, ◌<◌, ◌==◌, ◌||◌, ◌∙◌, ◌∷◌, ◌≡◌, ◌≤◌}
 use Rattle.lock_leasing.proofs.AccessRuns.{EachTail}
 use Rattle.lock_leasing.proofs.Facts.{facts_of}
-use Rattle.lock_leasing.specs.Configurations.{Grips, point, point_of, read_of}
-use Rattle.lock_leasing.specs.Counts.{up_to, up_to_committed, up_to_followed, up_to_touched}
 use Rattle.lock_leasing.specs.FirstPlaces.{IsFirstPlaceOf}
-use Rattle.lock_leasing.specs.Places.{binds, up_to_first, up_to_last}
-use Rattle.lock_leasing.specs.Standings.{IsRosterFor, WindowParts, has_ended, item_has_touched}
-use Rattle.lock_leasing.specs.Words.{has_touched}
-use Rattle.serial_line.proofs.Cited.{front_in_line, last_counted, last_in_line, up_to_either}
-use Rattle.serial_line.specs.Marks.{Mark, front_of, items_of}
-use Rattle.command_rules.specs.Searches.{last_place}
 use Rattle.serial_line.specs.Ties.{IsLineOf}
-use Rattle.std.proofs.Common.{ap, ap₂, arith, cond, refl, sym, ◌∙◌}
-use Rattle.std.proofs.lemmas.Grind.{common_steps}
-use Rattle.std.specs.List.{list_any, range_with_len}
-use Rattle.std.specs.Prelude.{Bool, List, None, Option, Some, [], false, filter, if◌then◌else◌, is_none, is_some, length, max, not, option_map, slice_get, suc, true, unwrap_or, zero, ℕ, ◌&&◌, ◌+◌, ◌<◌, ◌==◌, ◌||◌, ◌∷◌, ◌≡◌, ◌≤◌}
 
 -- Some item of a list passes
 

@@ -1,29 +1,10 @@
 -- Leases, as parts that belong to one window tell them.
-use Rattle.command_rules.specs.Rosters.{commands_of, estimate_to_last, is_on, run_no}
-use Rattle.history_book.proofs.Cited.{doom_is, placing_is}
-use Rattle.history_book.specs.Books.{doom_of}
-use Rattle.history_book.specs.Plans.{greatest}
-use Rattle.history_book.specs.Readings.{Reading, is_doomed, next_of}
-use Rattle.history_book.specs.Settings.{Setting}
+use Rattle.lock_leasing.proofs.Prelude.{Access, Asking, Bool, Command, Configuration, EachTellsOfRun, Grips, IsAsking, IsBorrowedFrom, IsDeadlineOf, IsNeverOverdue, IsOverdueOf, IsStandingOf, Kept, Leasing, List, MayAsk, MayLease, None, Option, Reading, RunNo, Setting, Some, TellsOfRun, WindowParts, [], access_borrows, access_deadline, access_is_overdue, access_of, accesses_at, accesses_before, ap, ap₂, arith, borrower_from, commands_of, common_steps, cond, doom_is, doom_of, estimate_to_last, false, find, first_before, greatest, has_access, holds_device, is_borrower, is_doomed, is_none, is_on, is_overdue, is_released, is_some, lease_deadline, length, live_before, min, nat_lt, next_of, not, option_map, overdue_for, placed_at, placing_is, point, point_of, read_of, refl, run_no, slice_get, stamp_of, subst, sym, tenth_up, true, unwrap_or, ℕ, ◌&&◌, ◌+◌, ◌<◌, ◌==◌, ◌||◌, ◌∙◌, ◌∷◌, ◌≡◌}
 use Rattle.history_book.specs.declared.entries.Cause.{Cause}
-use Rattle.history_book.specs.declared.entries.Kept.{Kept}
-use Rattle.home_types.specs.declared.commands.Command.{Command}
-use Rattle.home_types.specs.declared.numbers.RunNo.{RunNo}
 use Rattle.lineage_table.proofs.Cited.{found_has, has_homed}
-use Rattle.lineage_table.specs.Accesses.{access_of, accesses_before, first_before, has_access, is_released}
-use Rattle.lineage_table.specs.Lineages.{accesses_at}
-use Rattle.lineage_table.specs.declared.accesses.Access.{Access}
 use Rattle.lock_leasing.proofs.Facts.{Facts, facts_of}
 use Rattle.lock_leasing.proofs.Holding.{TellsTest, first_holder, sound_holds}
 use Rattle.lock_leasing.proofs.Meetings.{asking_opens}
-use Rattle.lock_leasing.specs.Configurations.{Configuration, Grips, point, point_of, read_of}
-use Rattle.lock_leasing.specs.Leases.{IsBorrowedFrom, IsDeadlineOf, IsNeverOverdue, IsOverdueOf, access_borrows, access_deadline, access_is_overdue, placed_at}
-use Rattle.lock_leasing.specs.Standings.{Asking, IsAsking, IsStandingOf, Leasing, MayAsk, MayLease, WindowParts}
-use Rattle.lock_leasing.specs.Tables.{EachTellsOfRun, TellsOfRun}
-use Rattle.lock_leasing.specs.Words.{borrower_from, holds_device, is_borrower, is_overdue, lease_deadline, live_before, overdue_for, stamp_of, tenth_up}
-use Rattle.std.proofs.Common.{ap, ap₂, arith, cond, refl, subst, sym, ◌∙◌}
-use Rattle.std.proofs.lemmas.Grind.{common_steps}
-use Rattle.std.specs.Prelude.{Bool, List, None, Option, Some, [], false, find, is_none, is_some, length, min, nat_lt, not, option_map, slice_get, true, unwrap_or, ℕ, ◌&&◌, ◌+◌, ◌<◌, ◌==◌, ◌||◌, ◌∷◌, ◌≡◌}
 
 -- A lease that is overdue is one
 

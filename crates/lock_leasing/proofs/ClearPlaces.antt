@@ -1,29 +1,9 @@
 -- The places behind which nothing must stand before a run: those of every scheduler are such places.
-use Rattle.command_rules.specs.ClosedSets.{chosen, others, rearranged}
-use Rattle.command_rules.specs.Items.{is_ran, of_run}
-use Rattle.command_rules.specs.Rosters.{follows, touches}
-use Rattle.history_book.proofs.Cited.{asks_next, first_within, gap_holds, gaps_behind, line_length}
-use Rattle.history_book.specs.Gaps.{gap_set, is_needed, line_for}
-use Rattle.history_book.specs.Lines.{Split, is_event_on, split_at}
-use Rattle.history_book.specs.Readings.{Reading, asks_on, did, is_committed, is_live, is_next_on, next_of}
+use Rattle.lock_leasing.proofs.Prelude.{At, Back, Bool, Denial, DeniedBy, Failed, Fcfs, Grips, IsClear, IsTrue, Item, JustInTime, List, MayBeOut, None, Option, Placing, Ran, Reading, RunNo, Scheduler, Setting, Some, Split, Timeline, [], ap, arith, asks_next, asks_on, at_end, binds, chosen, common_steps, denial_of, devices_of, did, drop, false, first_place, first_within, follows, gap_holds, gap_set, gaps_behind, grips_command, has_touched, if◌then◌else◌, in_order, is_committed, is_device, is_event_on, is_live, is_needed, is_next_on, is_ran, length, line_for, line_length, list_any, list_any-append, max, nat_le, next_of, of_run, others, patience, point, range_with_len, rearranged, refl, scheduled_place, scheduler_of, split_at, subst, suc, sym, take, touches, true, unwrap_or, up_to_first, up_to_last, zero, ℕ, ◌&&◌, ◌++◌, ◌+◌, ◌<◌, ◌==◌, ◌||◌, ◌∙◌, ◌∷◌, ◌≡◌, ◌≤◌}
 use Rattle.history_book.specs.Sealed.{sealed_in}
-use Rattle.history_book.specs.Settings.{Setting, devices_of, is_device, scheduler_of}
-use Rattle.home_types.specs.declared.items.Item.TheVariants.{Back, Failed, Ran}
-use Rattle.home_types.specs.declared.items.Item.{Item}
-use Rattle.home_types.specs.declared.modes.Scheduler.TheVariants.{Fcfs, JustInTime, Timeline}
-use Rattle.home_types.specs.declared.modes.Scheduler.{Scheduler}
-use Rattle.home_types.specs.declared.numbers.RunNo.{RunNo}
 use Rattle.lock_leasing.proofs.Bindings.{any_filter, any_range}
 use Rattle.lock_leasing.proofs.Facts.{command_out}
-use Rattle.lock_leasing.specs.Configurations.{Grips, grips_command, point}
-use Rattle.lock_leasing.specs.Places.{At, Denial, DeniedBy, IsClear, MayBeOut, Placing, at_end, binds, denial_of, first_place, in_order, patience, scheduled_place, up_to_first, up_to_last}
-use Rattle.lock_leasing.specs.Words.{has_touched}
-use Rattle.std.proofs.Common.{ap, arith, refl, subst, sym, ◌∙◌}
-use Rattle.std.proofs.lemmas.Grind.{common_steps}
-use Rattle.std.proofs.lemmas.List.Folds.{list_any-append}
 use Rattle.std.proofs.lemmas.List.{length-append, take-append-drop}
-use Rattle.std.specs.List.{list_any, range_with_len}
-use Rattle.std.specs.Prelude.{Bool, IsTrue, List, None, Option, Some, [], drop, false, if◌then◌else◌, length, max, nat_le, suc, take, true, unwrap_or, zero, ℕ, ◌&&◌, ◌++◌, ◌+◌, ◌<◌, ◌==◌, ◌||◌, ◌∷◌, ◌≡◌, ◌≤◌}
 
 -- The first place
 

@@ -1,25 +1,6 @@
 -- No set of items plans an earlier end of a run than that of the timeline does.
-use Rattle.command_rules.proofs.Cited.{grown_least}
+use Rattle.lock_leasing.proofs.Prelude.{Back, BarsRise, Bool, Command, Failed, Fcfs, IsEarliestSet, IsLeast, IsPart, Item, JustInTime, List, Planned, Planning, Ran, Reading, Scheduler, Setting, Timeline, [], arith, bars, base_length, base_of, chosen, commands_of, common_steps, devices_of, false, fold, fold-append, fold_along, free, gap_set, greatest, grown_least, if◌then◌else◌, is_live, is_open, list_any, max, min, nat_lt, not, passed_by, plan_end, plan_more, planned_end, planned_start, planned_times, reads_first, refl, scheduler_of, subst₂, sym, touches, true, whole_end, writes_on, ℕ, ◌&&◌, ◌++◌, ◌+◌, ◌==◌, ◌||◌, ◌∷◌, ◌≡◌, ◌≤◌}
 use Rattle.command_rules.specs.Apart.{meet}
-use Rattle.command_rules.specs.ClosedSets.{BarsRise, IsLeast, IsPart, chosen}
-use Rattle.command_rules.specs.Rosters.{commands_of, reads_first, touches, writes_on}
-use Rattle.history_book.proofs.Cited.{base_length}
-use Rattle.history_book.specs.Gaps.{bars, base_of, gap_set}
-use Rattle.history_book.specs.Plans.{Planning, free, greatest, plan_more, planned_end, planned_start, planned_times, whole_end}
-use Rattle.history_book.specs.Readings.{Planned, Reading, is_live, is_open, passed_by}
-use Rattle.history_book.specs.Settings.{Setting, devices_of, scheduler_of}
-use Rattle.home_types.specs.declared.commands.Command.{Command}
-use Rattle.home_types.specs.declared.items.Item.TheVariants.{Back, Failed, Ran}
-use Rattle.home_types.specs.declared.items.Item.{Item}
-use Rattle.home_types.specs.declared.modes.Scheduler.TheVariants.{Fcfs, JustInTime, Timeline}
-use Rattle.home_types.specs.declared.modes.Scheduler.{Scheduler}
-use Rattle.lock_leasing.specs.Places.{IsEarliestSet, plan_end}
-use Rattle.std.proofs.Common.{arith, refl, subst₂, sym}
-use Rattle.std.proofs.lemmas.Grind.{common_steps}
-use Rattle.std.proofs.lemmas.List.Folds.{fold_along}
-use Rattle.std.proofs.lemmas.List.Sums.{fold-append}
-use Rattle.std.specs.List.{list_any}
-use Rattle.std.specs.Prelude.{Bool, List, [], false, fold, if◌then◌else◌, max, min, nat_lt, not, true, ℕ, ◌&&◌, ◌++◌, ◌+◌, ◌==◌, ◌||◌, ◌∷◌, ◌≡◌, ◌≤◌}
 
 -- A larger set in front
 

@@ -1,15 +1,5 @@
 -- Live runs, and runs with an effective write.
-use Rattle.history_book.proofs.Cited.{Each, map_some}
-use Rattle.history_book.specs.Readings.{Reading, has_written, is_live}
-use Rattle.home_types.specs.declared.items.Item.{Item}
-use Rattle.home_types.specs.declared.items.Item.TheVariants.{Back, Failed, Ran}
-use Rattle.lock_leasing.specs.Configurations.{Grips}
-use Rattle.lock_leasing.specs.Words.{Write, effective_write, has_effect, is_undone, live_runs, write_of}
-use Rattle.std.proofs.Common.{arith, refl, subst}
-use Rattle.std.proofs.lemmas.Grind.{common_steps}
-use Rattle.std.specs.List.{cons_option}
-use Rattle.std.specs.Option.{option_or}
-use Rattle.std.specs.Prelude.{List, None, Option, Some, [], false, fold, if◌then◌else◌, option_map, true, unwrap_or, ℕ, ◌==◌, ◌∷◌, ◌≡◌}
+use Rattle.lock_leasing.proofs.Prelude.{Back, Each, Failed, Grips, Item, List, None, Option, Ran, Reading, Some, Write, [], arith, common_steps, cons_option, effective_write, false, fold, has_effect, has_written, if◌then◌else◌, is_live, is_undone, live_runs, map_some, option_map, option_or, refl, subst, true, unwrap_or, write_of, ℕ, ◌==◌, ◌∷◌, ◌≡◌}
 
 -- the live runs of a list are live
 pub live_runs_live : (n : Reading) (items : List Item) → Each (λ x. is_live n x ≡ true) (live_runs n items)

@@ -1,27 +1,9 @@
 -- The first live run of the line of which a test holds, as the accesses to a device tell it, and what is put before it: so an event finds its place, and a failure the run that it loses.
-use Rattle.command_rules.specs.Items.{is_ran, of_run}
-use Rattle.command_rules.specs.Rosters.{run_no, touches}
-use Rattle.history_book.proofs.Cited.{some_is}
-use Rattle.history_book.specs.Lines.{put_before}
-use Rattle.history_book.specs.Readings.{Reading, is_live, is_open, passed_by}
-use Rattle.history_book.specs.Settings.{Setting}
-use Rattle.home_types.specs.declared.items.Item.TheVariants.{Back, Failed, Ran}
-use Rattle.home_types.specs.declared.items.Item.{Item}
-use Rattle.lineage_table.specs.declared.accesses.Access.{Access}
+use Rattle.lock_leasing.proofs.Prelude.{Access, Back, Bool, EachTellsOfRun, Failed, Grips, Item, List, Mark, None, Option, Ran, Reading, Setting, Some, [], ap, arith, common_steps, cond, cons_option, covers, drop, false, find, if◌then◌else◌, is_live, is_open, is_ran, items_of, length, list_any, live_runs, map, nat_lt, not, of_run, option_map, passed_by, place_of, point, position, position_or_len, put_before, refl, run_no, runs_with_access, some_is, suc, sym, take, touches, true, up_to_first, uses, ℕ, ◌&&◌, ◌++◌, ◌+◌, ◌==◌, ◌||◌, ◌∙◌, ◌∷◌, ◌≡◌}
 use Rattle.lock_leasing.proofs.AccessRuns.{EachTail, HasAccess, has_work, workers_have_access}
 use Rattle.lock_leasing.proofs.Facts.{Facts}
 use Rattle.lock_leasing.proofs.Holding.{TellsTest, weaker}
-use Rattle.lock_leasing.specs.Configurations.{Grips, point}
-use Rattle.lock_leasing.specs.Order.{covers}
-use Rattle.lock_leasing.specs.Places.{up_to_first}
-use Rattle.lock_leasing.specs.Tables.{EachTellsOfRun, runs_with_access, uses}
-use Rattle.lock_leasing.specs.Words.{live_runs}
-use Rattle.serial_line.specs.Marks.{Mark, items_of, place_of}
-use Rattle.std.proofs.Common.{ap, arith, cond, refl, sym, ◌∙◌}
-use Rattle.std.proofs.lemmas.Grind.{common_steps}
 use Rattle.std.proofs.lemmas.List.Recursion.{is_position_or_len}
-use Rattle.std.specs.List.{cons_option, list_any, position_or_len}
-use Rattle.std.specs.Prelude.{Bool, List, None, Option, Some, [], drop, false, find, if◌then◌else◌, length, map, nat_lt, not, option_map, position, suc, take, true, ℕ, ◌&&◌, ◌++◌, ◌+◌, ◌==◌, ◌||◌, ◌∷◌, ◌≡◌}
 
 -- Which run it is
 

@@ -1,24 +1,10 @@
 -- What holds of a configuration that is not of the weak model, and whose history, grips and order are as they must be.
-use Rattle.command_rules.specs.Rosters.{commands_of, is_on, touches}
-use Rattle.history_book.proofs.Cited.{Shaped, Standing, StandsOnce, any_parted, asks_next, committed_in, did_not_passed, did_touches, is_abort, pending_not_passed, shapes, standing, stands_in, stands_once}
+use Rattle.lock_leasing.proofs.Prelude.{Bool, Command, Configuration, Grip, Grips, IsStandingOf, IsTrue, List, MayBeOut, None, OfRun, Option, PlacedAt, Reading, Setting, Shaped, Some, Standing, StandsOnce, WindowParts, [], any_parted, ap, arith, asks_next, asks_on, commands_of, committed_in, common_steps, did, did_not_passed, did_touches, drop, false, grips_command, grips_undo, has_written, is_abort, is_command, is_committed, is_committing, is_doomed, is_live, is_none, is_on, is_some, is_undo, is_undone, list_any, next_of, not, open_runs_are_last, option_map, passed_by, pending_not_passed, pends, point, read_of, refl, shapes, slice_get, standing, stands_in, stands_once, suc, take, touches, true, unwrap_or, uses, zero, ℕ, ◌&&◌, ◌==◌, ◌||◌, ◌∙◌, ◌∷◌, ◌≡◌}
 use Rattle.history_book.specs.Histories.{entries_of}
-use Rattle.history_book.specs.Readings.{OfRun, PlacedAt, Reading, asks_on, did, has_written, is_committed, is_committing, is_doomed, is_live, next_of, passed_by, pends}
-use Rattle.history_book.specs.Settings.{Setting}
 use Rattle.history_book.specs.declared.entries.End.TheVariants.{Aborted, Committed}
 use Rattle.history_book.specs.declared.entries.End.{End}
-use Rattle.home_types.specs.declared.commands.Command.{Command}
-use Rattle.lock_leasing.specs.Configurations.{Configuration, Grip, Grips, grips_command, grips_undo, is_command, is_undo, point, read_of}
 use Rattle.lock_leasing.specs.declared.purposes.Purpose.TheVariants.{Commands, Probes, Undoes}
 use Rattle.lock_leasing.specs.declared.purposes.Purpose.{Purpose}
-use Rattle.lock_leasing.specs.Order.{open_runs_are_last}
-use Rattle.lock_leasing.specs.Places.{MayBeOut}
-use Rattle.lock_leasing.specs.Standings.{IsStandingOf, WindowParts}
-use Rattle.lock_leasing.specs.Tables.{uses}
-use Rattle.lock_leasing.specs.Words.{is_undone}
-use Rattle.std.proofs.Common.{ap, arith, refl, ◌∙◌}
-use Rattle.std.proofs.lemmas.Grind.{common_steps}
-use Rattle.std.specs.List.{list_any}
-use Rattle.std.specs.Prelude.{Bool, IsTrue, List, None, Option, Some, [], drop, false, is_none, is_some, not, option_map, slice_get, suc, take, true, unwrap_or, zero, ℕ, ◌&&◌, ◌==◌, ◌||◌, ◌∷◌, ◌≡◌}
 
 pub record Facts (w : Setting) (n : Reading) (g : Grips) : Type 0 where
   pub shaped : Shaped w n

@@ -1,28 +1,10 @@
 -- A run that stands behind no live run waits for none; where a run of the line is live there is a first live one.
-use Rattle.command_rules.specs.Items.{is_ran}
-use Rattle.command_rules.specs.Rosters.{Run, shares}
-use Rattle.history_book.specs.Lines.{before}
-use Rattle.history_book.specs.Readings.{Reading, has_written, is_live, sees_down}
-use Rattle.history_book.specs.Settings.{Setting}
-use Rattle.home_types.specs.Commands.{reads}
-use Rattle.home_types.specs.declared.commands.Command.{Command}
-use Rattle.home_types.specs.declared.items.Item.{Item}
-use Rattle.home_types.specs.declared.items.Item.TheVariants.{Back, Failed, Ran}
+use Rattle.lock_leasing.proofs.Prelude.{Back, Bool, Command, Failed, Grips, Item, List, None, Option, Ran, Reading, Run, Scheduler, Setting, Some, [], ap, ap₂, arith, before, behind_wait, common_steps, cond, cons_option, dirty_wait, false, find, has_effect, has_written, holds_device, if◌then◌else◌, is_live, is_ran, list_any, live_before, live_runs, not, point, reads, refl, sees_down, shares, strict_wait, subst, sym, take_while-cons, touch_by, true, ℕ, ◌&&◌, ◌==◌, ◌||◌, ◌∙◌, ◌∷◌, ◌≡◌}
 use Rattle.home_types.specs.declared.kinds.Kind.{Kind}
-use Rattle.home_types.specs.declared.modes.Scheduler.{Scheduler}
 use Rattle.home_types.specs.declared.modes.Visibility.{Visibility}
 use Rattle.home_types.specs.declared.modes.Visibility.TheVariants.{Eventual, Global, Partitioned, Weak}
 use Rattle.home_types.specs.declared.worlds.Stand.{Stand}
-use Rattle.lock_leasing.specs.Configurations.{Grips, point}
 use Rattle.lock_leasing.specs.FirstRuns.{IsFirstLive, WaitsForNone}
-use Rattle.lock_leasing.specs.Touches.{touch_by}
-use Rattle.lock_leasing.specs.Waits.{behind_wait, dirty_wait, strict_wait}
-use Rattle.lock_leasing.specs.Words.{has_effect, holds_device, live_before, live_runs}
-use Rattle.std.proofs.Common.{ap, ap₂, arith, cond, refl, subst, sym, ◌∙◌}
-use Rattle.std.proofs.lemmas.Grind.{common_steps}
-use Rattle.std.proofs.lemmas.List.Sums.{take_while-cons}
-use Rattle.std.specs.List.{cons_option, list_any}
-use Rattle.std.specs.Prelude.{Bool, List, None, Option, Some, [], false, find, if◌then◌else◌, not, true, ℕ, ◌&&◌, ◌==◌, ◌||◌, ◌∷◌, ◌≡◌}
 
 -- A run that stands behind no live run
 

@@ -1,12 +1,5 @@
 -- Counts of items of the line, as its touches and the history's ends tell them.
-use Rattle.command_rules.proofs.Cited.{last_told, last_within}
-use Rattle.home_types.specs.declared.items.Item.{Item}
-use Rattle.serial_line.proofs.Cited.{place_is, place_unfound}
-use Rattle.serial_line.specs.Marks.{Mark, all_differ, is_item, items_of, place_of, untouched}
-use Rattle.command_rules.specs.Searches.{last_place}
-use Rattle.std.proofs.Common.{ap, refl, sym, ◌∙◌}
-use Rattle.std.specs.Option.{option_or}
-use Rattle.std.specs.Prelude.{List, None, Option, Some, [], if◌then◌else◌, option_map, true, ℕ, ◌+◌, ◌∷◌, ◌≡◌}
+use Rattle.lock_leasing.proofs.Prelude.{Item, List, Mark, None, Option, Some, [], all_differ, ap, if◌then◌else◌, is_item, items_of, last_place, last_told, last_within, option_map, option_or, place_is, place_of, place_unfound, refl, sym, true, untouched, ℕ, ◌+◌, ◌∙◌, ◌∷◌, ◌≡◌}
 
 -- the last place of an item that stands once is its place
 pub place_last : (x : Item) (ms : List Mark) → all_differ (items_of ms) ≡ true → place_of x ms ≡ last_place (is_item x) (items_of ms)

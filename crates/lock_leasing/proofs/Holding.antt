@@ -1,32 +1,9 @@
 -- The runs that hold a device, or wrote it, before a run: the accesses tell them as the history does.
-use Rattle.command_rules.specs.Items.{is_ran, of_run}
-use Rattle.command_rules.specs.Rosters.{touches}
-use Rattle.history_book.specs.Books.{doom_of}
+use Rattle.lock_leasing.proofs.Prelude.{Access, Back, Bool, Command, EachTellsOfRun, Failed, Grips, Item, Kept, List, None, Option, Ran, Reading, RunNo, Setting, Some, TellsOfRun, [], access_holds, access_of, accesses_before, ap, arith, behind_wait, common_steps, cond, cons_option, covers, did, dirty_wait, dirty_writer, doom_of, effective_write, effective_writer, false, find, first_before, grips_command, has_effect, has_written, holder_before, holds_device, if◌then◌else◌, is_doomed, is_down_view, is_live, is_none, is_open, is_ran, is_released, is_some, is_undone, is_writer, list_any, live_before, live_runs, map, not, of_run, option_map, pends, point, reads, reads_its_place, refl, runs_with_access, sees_down, sees_it_down, status_by_answers, subst, sym, take_while-cons, touches, true, unwrap_or, uses, view_of, view_when, writer_before, ℕ, ◌&&◌, ◌==◌, ◌||◌, ◌∙◌, ◌∷◌, ◌≡◌}
 use Rattle.history_book.specs.Lines as lines
-use Rattle.history_book.specs.Readings.{Reading, did, has_written, is_doomed, is_live, is_open, pends, sees_down, view_of}
-use Rattle.history_book.specs.Settings.{Setting}
-use Rattle.history_book.specs.declared.entries.Kept.{Kept}
-use Rattle.home_types.specs.Commands.{reads}
-use Rattle.home_types.specs.declared.commands.Command.{Command}
-use Rattle.home_types.specs.declared.items.Item.TheVariants.{Back, Failed, Ran}
-use Rattle.home_types.specs.declared.items.Item.{Item}
-use Rattle.home_types.specs.declared.numbers.RunNo.{RunNo}
-use Rattle.lineage_table.specs.Accesses.{access_of, accesses_before, effective_writer, first_before, is_released}
-use Rattle.lineage_table.specs.declared.accesses.Access.{Access}
 use Rattle.lock_leasing.proofs.AccessRuns.{EachTail, HasAccess, has_work, workers_have_access}
 use Rattle.lock_leasing.proofs.Facts.{Facts, command_pends, undone_doomed}
 use Rattle.lock_leasing.proofs.Writers.{live_writer, run_in, writer_has_effect, writer_is}
-use Rattle.lock_leasing.specs.Configurations.{Grips, grips_command, point}
-use Rattle.lock_leasing.specs.Holders.{access_holds, dirty_writer, holder_before, is_down_view, is_writer, reads_its_place, sees_it_down, writer_before}
-use Rattle.lock_leasing.specs.Order.{covers}
-use Rattle.lock_leasing.specs.Tables.{EachTellsOfRun, TellsOfRun, runs_with_access, status_by_answers, uses, view_when}
-use Rattle.lock_leasing.specs.Waits.{behind_wait, dirty_wait}
-use Rattle.lock_leasing.specs.Words.{effective_write, has_effect, holds_device, is_undone, live_before, live_runs}
-use Rattle.std.proofs.Common.{ap, arith, cond, refl, subst, sym, ◌∙◌}
-use Rattle.std.proofs.lemmas.Grind.{common_steps}
-use Rattle.std.proofs.lemmas.List.Sums.{take_while-cons}
-use Rattle.std.specs.List.{cons_option, list_any}
-use Rattle.std.specs.Prelude.{Bool, List, None, Option, Some, [], false, find, if◌then◌else◌, is_none, is_some, map, not, option_map, true, unwrap_or, ℕ, ◌&&◌, ◌==◌, ◌||◌, ◌∷◌, ◌≡◌}
 
 abbrev head_or : List ℕ → ℕ → ℕ
 head_or [] k = k

@@ -1,29 +1,10 @@
 -- What the words on a point say stays as it is where a run joins the window: who holds a device, who asks for it, where a run is placed, and what may be out.
-use Rattle.command_rules.specs.ClosedSets.{chosen, others}
-use Rattle.command_rules.specs.Items.{of_run}
-use Rattle.command_rules.specs.Rosters.{Run, is_on, is_run, reads_first, reads_unwritten, touches}
-use Rattle.history_book.proofs.Cited.{ReadsOwn, Shaped, first_holds, live_own, masked, own_commands, own_follows, own_pends, own_touches, same_devices, same_gap, same_split}
-use Rattle.history_book.specs.Gaps.{split_of}
+use Rattle.lock_leasing.proofs.Prelude.{At, Back, Denial, DeniedBy, Failed, Fcfs, Grips, GripsFit, IsScheduled, IsTrue, Item, JustInTime, MayBeOut, None, Option, Placing, Ran, Reading, ReadsOwn, Run, Scheduler, Setting, Shaped, Some, Timeline, ap, arith, asks_on, at_end, binds, chosen, common_steps, denial_of, denied_by, effective_writer_of, false, filter, find, first_holds, first_place, first_some, has_effect, has_touched, holds, holds_device, if◌then◌else◌, is_committed, is_doomed, is_live, is_on, is_run, just_in_time, length, list_any, live_own, live_runs, masked, max, nat_le, next_of, of_run, option_map, option_or, others, own_commands, own_follows, own_pends, own_touches, patience, pends, point, reads_first, reads_unwritten, refl, same_devices, same_gap, same_split, scheduled_place, scheduler_of, slice_get, split_at, split_of, sym, take, timeline, touches, true, unwrap_or, up_to_last, ℕ, ◌&&◌, ◌+◌, ◌==◌, ◌||◌, ◌∙◌, ◌≡◌}
 use Rattle.history_book.specs.Joined.{with_joined}
-use Rattle.history_book.specs.Lines.{split_at, up_to_first}
-use Rattle.history_book.specs.Readings.{Reading, asks_on, is_committed, is_doomed, is_live, next_of, pends}
-use Rattle.history_book.specs.Settings.{Setting, scheduler_of}
+use Rattle.history_book.specs.Lines.{up_to_first}
 use Rattle.history_book.specs.WellFormed.{may_follow}
 use Rattle.history_book.specs.declared.entries.Entry.TheVariants.{Arrived, Did, Doomed, Ended, Fell, Placed, Rose, Undid}
 use Rattle.history_book.specs.declared.entries.Entry.{Entry}
-use Rattle.home_types.specs.Commands.{holds}
-use Rattle.home_types.specs.declared.items.Item.TheVariants.{Back, Failed, Ran}
-use Rattle.home_types.specs.declared.items.Item.{Item}
-use Rattle.home_types.specs.declared.modes.Scheduler.TheVariants.{Fcfs, JustInTime, Timeline}
-use Rattle.home_types.specs.declared.modes.Scheduler.{Scheduler}
-use Rattle.lock_leasing.specs.Configurations.{Grips, point}
-use Rattle.lock_leasing.specs.Places.{At, Denial, DeniedBy, GripsFit, IsScheduled, MayBeOut, Placing, at_end, binds, denial_of, denied_by, first_place, first_some, just_in_time, patience, scheduled_place, timeline, up_to_last}
-use Rattle.lock_leasing.specs.Words.{effective_writer_of, has_effect, has_touched, holds_device, live_runs}
-use Rattle.std.proofs.Common.{ap, arith, refl, sym, ◌∙◌}
-use Rattle.std.proofs.lemmas.Grind.{common_steps}
-use Rattle.std.specs.List.{list_any}
-use Rattle.std.specs.Option.{option_or}
-use Rattle.std.specs.Prelude.{IsTrue, None, Option, Some, false, filter, find, if◌then◌else◌, length, max, nat_le, option_map, slice_get, take, true, unwrap_or, ℕ, ◌&&◌, ◌+◌, ◌==◌, ◌||◌, ◌≡◌}
 
 -- Who holds a device
 

@@ -2,6 +2,7 @@ mod Places
 mod Effects
 mod Facts
 mod AccessRuns
+mod Prelude
 mod Writers
 mod Undoing
 mod Holding

@@ -1,23 +1,8 @@
 -- What a run meets at its next command, as parts that belong to one window tell it.
-use Rattle.command_rules.specs.Items.{is_ran}
-use Rattle.command_rules.specs.Rosters.{command_at, commands_of, is_on, no_command}
-use Rattle.history_book.proofs.Cited.{doom_is}
-use Rattle.history_book.specs.Readings.{is_open, next_of}
-use Rattle.home_types.specs.declared.commands.Command.{Command}
-use Rattle.home_types.specs.declared.numbers.RunNo.{RunNo}
-use Rattle.lineage_table.specs.Lineages.{accesses_at, lineage_at}
+use Rattle.lock_leasing.proofs.Prelude.{Command, Configuration, IsAsking, IsAtCommand, IsLineageOf, IsStandingOf, IsTouchOf, List, None, RunNo, Some, WindowParts, [], accesses_at, ap, ap₂, arith, command_at, commands_of, dirty_writer, doom_is, eq-eqb, false, holder_before, is_on, is_open, is_ran, is_some, length, lineage_at, list_any, next_of, no_command, option_map, point_of, read_of, refl, slice_get, slice_index_or, subst, suc, sym, touch_by, touch_of, true, unwrap_or, zero, ℕ, ◌<◌, ◌∙◌, ◌∷◌, ◌≡◌}
 use Rattle.lock_leasing.proofs.Facts.{facts_of, live_stands, next_is_left}
 use Rattle.lock_leasing.proofs.Holding.{dirty_is, holder_is}
-use Rattle.lock_leasing.specs.Configurations.{Configuration, point_of, read_of}
-use Rattle.lock_leasing.specs.Holders.{dirty_writer, holder_before}
-use Rattle.lock_leasing.specs.Standings.{IsAsking, IsAtCommand, IsStandingOf, WindowParts}
-use Rattle.lock_leasing.specs.Tables.{IsLineageOf}
-use Rattle.lock_leasing.specs.Touches.{IsTouchOf, touch_by, touch_of}
 use Rattle.lock_leasing.specs.declared.touches.Touch.TheVariants.{Behind, Dirty, Free}
-use Rattle.std.proofs.Common.{ap, ap₂, arith, refl, subst, sym, ◌∙◌}
-use Rattle.std.proofs.lemmas.Bool.{eq-eqb}
-use Rattle.std.specs.List.{list_any}
-use Rattle.std.specs.Prelude.{List, None, Some, [], false, is_some, length, option_map, slice_get, slice_index_or, suc, true, unwrap_or, zero, ℕ, ◌<◌, ◌∷◌, ◌≡◌}
 
 -- an item of a list, by its place
 pub item_there : {A : Type 0} (xs : List A) (k : ℕ) (d : A) → k < length xs → slice_get xs k ≡ Some (slice_index_or xs k d)

@@ -1,7 +1,5 @@
 -- Placing a run leaves every effective write, wherever it is placed.
-use Rattle.std.proofs.Common.{ap, cond, refl, sym, ◌∙◌}
-use Rattle.std.specs.Option.{option_or}
-use Rattle.std.specs.Prelude.{Bool, List, None, Option, [], false, filter, fold, true, ◌∷◌, ◌≡◌}
+use Rattle.lock_leasing.proofs.Prelude.{Bool, List, None, Option, [], ap, cond, false, filter, fold, option_or, refl, sym, true, ◌∙◌, ◌∷◌, ◌≡◌}
 
 pub last_filter : {A B : Type 0} (f : A → Option B) (p : A → Bool) (xs : List A) (b : Option B) → ((x : A) → p x ≡ false → f x ≡ None)
     → fold (λ best x. option_or (f x) best) b (filter p xs) ≡ fold (λ best x. option_or (f x) best) b xs

@@ -1,15 +1,7 @@
 -- The last item that has touched one of a run's devices, by its commands.
-use Rattle.command_rules.specs.Rosters.{is_on}
-use Rattle.command_rules.specs.Searches.{last_place}
+use Rattle.lock_leasing.proofs.Prelude.{Command, List, Mark, None, Some, [], if◌then◌else◌, is_on, last_meeting, last_place, list_any, meets_by, option_map, option_or, refl, ℕ, ◌+◌, ◌∷◌, ◌≡◌}
 use Rattle.home_types.specs.DeviceSets.{Devices}
-use Rattle.home_types.specs.declared.commands.Command.{Command}
-use Rattle.serial_line.proofs.Cited.{meets_by}
-use Rattle.serial_line.specs.Marks.{Mark, last_meeting}
-use Rattle.std.proofs.Common.{refl}
 use Rattle.std.specs.FinSet as set
-use Rattle.std.specs.List.{list_any}
-use Rattle.std.specs.Option.{option_or}
-use Rattle.std.specs.Prelude.{List, None, Some, [], if◌then◌else◌, option_map, ℕ, ◌+◌, ◌∷◌, ◌≡◌}
 
 -- it is the last one that meets the set of the devices of these commands
 pub touched_by_set : (commands : List Command) (devices : Devices) (line : List Mark) → ((d : ℕ) → set.contains devices d ≡ list_any (is_on d) commands) → last_meeting devices line ≡ last_place (λ m. list_any (λ (c : Command). set.contains m.touched c.device.0) commands) line

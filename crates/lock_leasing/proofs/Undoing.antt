@@ -1,29 +1,11 @@
 -- What the accesses to a device tell of an undo: whether the run has the effective write there, and the value that would stand if it had not written.
-use Rattle.command_rules.specs.Rosters.{run_no}
+use Rattle.lock_leasing.proofs.Prelude.{Access, Back, Bool, EachTellsOfRun, Failed, Grips, Item, List, None, Option, Ran, Reading, RunNo, Setting, Some, TellsOfRun, Write, [], accesses_without, ap, arith, committed_value, committed_write, common_steps, cond, covers, device_numbers, effective_write, effective_writer, false, filter, find, fold, has_effect, if◌then◌else◌, is_committed, is_device, is_live, is_some, is_undone, length, list_any, map, nat_lt, next_undo_of, not, option_map, option_or, or_right, point, range_with_len, refl, run_no, runs_with_access, subst, suc, sym, touches, true, unwrap_or, uses, value_standing, value_without, write_of, zero, ℕ, ◌&&◌, ◌+◌, ◌==◌, ◌||◌, ◌∙◌, ◌∷◌, ◌≡◌, ◌≤◌}
 use Rattle.history_book.specs.Lines.{without as line_without}
-use Rattle.history_book.specs.Readings.{Reading, is_committed, is_live}
-use Rattle.history_book.specs.Settings.{Setting, device_numbers, is_device}
 use Rattle.home_types.specs.HomeStates.{stand_at}
-use Rattle.home_types.specs.declared.items.Item.TheVariants.{Back, Failed, Ran}
-use Rattle.home_types.specs.declared.items.Item.{Item}
-use Rattle.home_types.specs.declared.numbers.RunNo.{RunNo}
-use Rattle.command_rules.specs.Rosters.{touches}
-use Rattle.lineage_table.specs.Accesses.{accesses_without, effective_writer, value_standing}
-use Rattle.lineage_table.specs.declared.accesses.Access.{Access}
 use Rattle.lock_leasing.proofs.AccessRuns.{EachTail, last_from}
 use Rattle.lock_leasing.proofs.Effects.{effect_is}
 use Rattle.lock_leasing.proofs.Facts.{Facts, committed_stays, live_uncommitted, written_touches}
 use Rattle.lock_leasing.proofs.Writers.{Stays, all_stay, live_writer, no_write, writer_is, write_by}
-use Rattle.lock_leasing.specs.Configurations.{Grips, point}
-use Rattle.lock_leasing.specs.Order.{committed_value, covers}
-use Rattle.lock_leasing.specs.Tables.{EachTellsOfRun, TellsOfRun, runs_with_access, uses}
-use Rattle.lock_leasing.specs.Words.{Write, committed_write, effective_write, has_effect, is_undone, next_undo_of, value_without, write_of}
-use Rattle.std.proofs.Common.{ap, arith, cond, refl, subst, sym, ◌∙◌}
-use Rattle.std.proofs.lemmas.Bool.{or_right}
-use Rattle.std.proofs.lemmas.Grind.{common_steps}
-use Rattle.std.specs.List.{list_any, range_with_len}
-use Rattle.std.specs.Option.{option_or}
-use Rattle.std.specs.Prelude.{Bool, List, None, Option, Some, [], false, filter, find, fold, if◌then◌else◌, is_some, length, map, nat_lt, not, option_map, suc, true, unwrap_or, zero, ℕ, ◌&&◌, ◌+◌, ◌==◌, ◌||◌, ◌∷◌, ◌≡◌, ◌≤◌}
 
 -- the run is the effective writer
 abbrev pub has_last_write : ℕ → List Access → Bool

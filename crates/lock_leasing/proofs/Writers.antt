@@ -1,24 +1,7 @@
 -- The effective writer that the accesses to a device tell is the run of its effective write, where that run is live.
-use Rattle.command_rules.specs.Items.{is_ran}
-use Rattle.history_book.specs.Readings.{Reading, has_written, is_committed, is_live}
-use Rattle.history_book.specs.Settings.{Setting}
-use Rattle.home_types.specs.declared.items.Item.TheVariants.{Back, Failed, Ran}
-use Rattle.home_types.specs.declared.items.Item.{Item}
-use Rattle.home_types.specs.declared.numbers.RunNo.{RunNo}
-use Rattle.lineage_table.specs.Accesses.{effective_writer}
-use Rattle.lineage_table.specs.declared.accesses.Access.{Access}
+use Rattle.lock_leasing.proofs.Prelude.{Access, Back, Bool, EachTellsOfRun, Failed, Grips, Item, List, None, Option, Ran, Reading, RunNo, Setting, Some, TellsOfRun, Write, [], ap, arith, common_steps, covers, effective_write, effective_writer, false, fold, has_effect, has_written, if◌then◌else◌, is_committed, is_live, is_ran, is_some, is_undone, is_writer, list_any, map, not, option_map, option_or, point, refl, runs_with_access, subst, sym, true, unwrap_or, uses, write_of, ℕ, ◌&&◌, ◌==◌, ◌||◌, ◌∙◌, ◌∷◌, ◌≡◌}
 use Rattle.lock_leasing.proofs.AccessRuns.{EachTail, covers_write, last_from, own_write}
 use Rattle.lock_leasing.proofs.Facts.{Facts, live_uncommitted, stands_or_committed, written_uses}
-use Rattle.lock_leasing.specs.Configurations.{Grips, point}
-use Rattle.lock_leasing.specs.Holders.{is_writer}
-use Rattle.lock_leasing.specs.Order.{covers}
-use Rattle.lock_leasing.specs.Tables.{EachTellsOfRun, TellsOfRun, runs_with_access, uses}
-use Rattle.lock_leasing.specs.Words.{Write, effective_write, has_effect, is_undone, write_of}
-use Rattle.std.proofs.Common.{ap, arith, refl, subst, sym, ◌∙◌}
-use Rattle.std.proofs.lemmas.Grind.{common_steps}
-use Rattle.std.specs.List.{list_any}
-use Rattle.std.specs.Option.{option_or}
-use Rattle.std.specs.Prelude.{Bool, List, None, Option, Some, [], false, fold, if◌then◌else◌, is_some, map, not, option_map, true, unwrap_or, ℕ, ◌&&◌, ◌==◌, ◌||◌, ◌∷◌, ◌≡◌}
 
 abbrev pub write_by : ℕ → ℕ → Write
 write_by r v = record { run = r; value = v }

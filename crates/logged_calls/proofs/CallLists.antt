@@ -1,14 +1,9 @@
 -- The calls read from bytes, one after another.
 use Rattle.logged_calls.proofs.RecordBytes.{call_in_front, front_round, front_short, front_within, length-record}
-use Rattle.logged_calls.specs.CallBytes.{call_bytes, calls_bytes, calls_from, front_call, front_calls, good_bytes, with_first}
-use Rattle.logged_calls.specs.Calls.{IsLoggable}
-use Rattle.logged_calls.specs.Records.{record_of}
-use Rattle.logged_calls.specs.declared.calls.Logged.{Logged}
-use Rattle.std.proofs.Common.{All, IfNone, IfSome, List, None, Option, Some, [], ap, append_assoc, arith, drop, drop-drop, inl, inr, length, length-append, length-drop, length-take-le, refl, suc, sym, take, take-add, take_all, zero, ℕ, ◌*◌, ◌++◌, ◌+◌, ◌-◌, ◌/◌, ◌<◌, ◌≡◌, ◌∙◌, ◌∷◌}
+use Rattle.logged_calls.proofs.Prelude.{All, IfNone, IfSome, IsLoggable, List, Logged, None, Option, Some, [], ap, append-nil, append_assoc, arith, call_bytes, calls_bytes, calls_from, drop, drop-drop, front_call, front_calls, good_bytes, inl, inr, length, length-append, length-drop, length-take-le, record_of, refl, suc, sym, take, take-add, take_all, with_first, zero, ℕ, ◌*◌, ◌++◌, ◌+◌, ◌-◌, ◌/◌, ◌<◌, ◌∙◌, ◌∷◌, ◌≡◌}
 use Rattle.std.proofs.Math.Seq.{take-append-add, take-nil}
 use Rattle.std.proofs.lemmas.Bool.{cases_lt}
 use Rattle.std.proofs.lemmas.List.Elements.{All-drop, All-push, All-same, All-tail}
-use Rattle.std.proofs.lemmas.List.{append-nil}
 
 -- one call more, where one stands in front
 pub calls_next : (bytes : List ℕ) (call : Logged) → front_call bytes ≡ Some call → calls_from bytes ≡ call ∷ calls_from (drop 24 bytes)

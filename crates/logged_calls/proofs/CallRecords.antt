@@ -1,19 +1,8 @@
 -- A call and the numbers of its record.
-use Rattle.day_clock.specs.Times.{IsCivilTime}
-use Rattle.day_clock.specs.declared.times.When.{When}
-use Rattle.device_gate.specs.declared.slips.Told.TheVariants.{Died, Sensed, Worked}
+use Rattle.logged_calls.proofs.Prelude.{Added, Began, Bool, Closed, Died, FollowFits, Gave, HasCivilTime, IsCivilTime, IsLoggable, Logged, Lost, None, Opened, Option, Probed, Record, Restood, Sensed, Some, Took, When, Worked, ap, arith, call_of, call_of_kind, digits_time, false, follow_in, if_same, if◌then◌else◌, is_civil, is_some, nat_lt, nat_tests, number_time, record_of, refl, same_record, subst, sym, time_number, true, true≢false, ℕ, ◌^◌, ◌∙◌, ◌≡◌}
 use Rattle.home_types.specs.declared.numbers.RunNo.{RunNo}
 use Rattle.logged_calls.proofs.TimeDigits.{civil_is, time_round}
-use Rattle.logged_calls.specs.Calls.{FollowFits, HasCivilTime, IsLoggable}
-use Rattle.logged_calls.specs.Records.{call_of, call_of_kind, follow_in, if_same, record_of, same_record}
-use Rattle.logged_calls.specs.Times.{digits_time, is_civil, number_time, time_number}
-use Rattle.logged_calls.specs.declared.calls.Logged.TheVariants.{Added, Began, Closed, Gave, Lost, Opened, Probed, Restood, Took}
-use Rattle.logged_calls.specs.declared.calls.Logged.{Logged}
-use Rattle.logged_calls.specs.declared.records.Record.{Record}
-use Rattle.std.proofs.Common.{Bool, None, Option, Some, ap, arith, false, refl, subst, sym, true, true≢false, ℕ, ◌^◌, ◌≡◌, ◌∙◌}
-use Rattle.std.proofs.lemmas.Bool.Decides.{nat_tests}
 use Rattle.std.specs.Option.{option_map}
-use Rattle.std.specs.Prelude.{if◌then◌else◌, is_some, nat_lt}
 
 some_or : {X : Type 0} → X → Option X → X
 some_or d None = d

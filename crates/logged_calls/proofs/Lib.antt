@@ -1,3 +1,4 @@
+mod Prelude
 mod TimeDigits
 mod CallRecords
 mod RecordBytes

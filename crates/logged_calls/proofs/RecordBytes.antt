@@ -1,18 +1,8 @@
 -- The numbers of a record and its bytes.
-use Rattle.device_gate.specs.declared.slips.Told.TheVariants.{Died, Sensed, Worked}
+use Rattle.logged_calls.proofs.Prelude.{Added, All, Began, Bool, Closed, Died, Gave, IsLoggable, List, Logged, Lost, None, Opened, Probed, Record, Restood, Sensed, Some, Took, Worked, [], ap, arith, call_bytes, call_of, drop, drop_more, false, front_call, front_record, get_or, if◌then◌else◌, is_some, length, length-append, nat_lt, nat_tests, record_bytes, record_of, refl, suc, sym, take, true, true≢false, w16, w32, w64, zero, ℕ, ◌++◌, ◌+◌, ◌<◌, ◌^◌, ◌∙◌, ◌∷◌, ◌≡◌, ◌≤◌}
 use Rattle.logged_calls.proofs.CallRecords.{call_round, read_is}
-use Rattle.logged_calls.specs.CallBytes.{call_bytes, front_call, front_record, record_bytes}
-use Rattle.logged_calls.specs.Calls.{IsLoggable}
-use Rattle.logged_calls.specs.Records.{call_of, record_of}
-use Rattle.logged_calls.specs.declared.calls.Logged.TheVariants.{Added, Began, Closed, Gave, Lost, Opened, Probed, Restood, Took}
-use Rattle.logged_calls.specs.declared.calls.Logged.{Logged}
-use Rattle.logged_calls.specs.declared.records.Record.{Record}
-use Rattle.std.proofs.Common.{All, Bool, List, None, Some, [], ap, arith, drop, false, get_or, length, length-append, refl, suc, sym, take, true, true≢false, w16, w32, w64, zero, ℕ, ◌++◌, ◌+◌, ◌<◌, ◌^◌, ◌≡◌, ◌≤◌, ◌∙◌, ◌∷◌}
-use Rattle.std.proofs.lemmas.Bool.Decides.{nat_tests}
-use Rattle.std.proofs.lemmas.List.{drop_more}
 use Rattle.std.proofs.lemmas.Nat.{from_le_bytes-to_le_bytes_2, from_le_bytes-to_le_bytes_4, from_le_bytes-to_le_bytes_8, le_bytes_2, le_bytes_4, le_bytes_8}
 use Rattle.std.specs.Int.{from_le_bytes, to_le_bytes}
-use Rattle.std.specs.Prelude.{if◌then◌else◌, is_some, nat_lt}
 
 -- each number of the record has the bits of its field
 record HasRoom (r : Record) : Type 0 where

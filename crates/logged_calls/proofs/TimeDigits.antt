@@ -1,11 +1,6 @@
 -- A time and the number of its digits.
-use Rattle.day_clock.specs.Times.{IsCivilTime}
-use Rattle.day_clock.specs.declared.times.When.{When}
-use Rattle.logged_calls.specs.Times.{digits_time, is_civil, number_time, time_number}
-use Rattle.std.proofs.Common.{None, Some, ap, arith, true, ◌%◌, ◌/◌, ◌≡◌, ◌∙◌}
-use Rattle.std.proofs.lemmas.Bool.Decides.{nat_tests}
+use Rattle.logged_calls.proofs.Prelude.{IsCivilTime, None, Some, When, ap, arith, digits_time, if◌then◌else◌, is_civil, nat_tests, number_time, time_number, true, ◌%◌, ◌/◌, ◌∙◌, ◌≡◌}
 use Rattle.std.proofs.lemmas.Grind.{common_steps}
-use Rattle.std.specs.Prelude.{if◌then◌else◌}
 
 pub is_civil_true : (t : When) → IsCivilTime t → is_civil t ≡ true
 is_civil_true t is =

@@ -1,10 +1,7 @@
 -- Where a byte stands first in a text.
 use Rattle.memchr.specs.Find.{IsFirstByte, is_byte}
-use Rattle.std.proofs.Common.{List, None, Option, Some, arith, length, ℕ, ◌<◌, ◌==◌, ◌≡◌}
+use Rattle.order_checker.proofs.Prelude.{List, None, Option, Some, arith, common_steps, length, position, position_or_len, position_or_len_is, ℕ, ◌<◌, ◌==◌, ◌≡◌}
 use Rattle.std.proofs.lemmas.Bool.{false_from_ne_true}
-use Rattle.std.proofs.lemmas.Grind.{common_steps}
-use Rattle.std.proofs.lemmas.List.Sums.{position_or_len_is}
-use Rattle.std.specs.List.{position, position_or_len}
 
 pub first-place : (byte : ℕ) (text : List ℕ) (found : Option ℕ) → IsFirstByte (is_byte byte) text found → found ≡ position (λ b. b == byte) text
 first-place byte text None nowhere =

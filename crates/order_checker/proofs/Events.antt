@@ -1,9 +1,6 @@
 -- A failure or a restart changes which devices are up, and nothing else.
 use Rattle.home_types.specs.declared.items.Item.TheVariants.{Back, Failed, Ran}
-use Rattle.home_types.specs.declared.items.Item.{Item}
-use Rattle.home_types.specs.declared.worlds.Stand.{Stand}
-use Rattle.order_checker.specs.OrderLines.{home_with_event}
-use Rattle.std.proofs.Common.{List, length, length-set, refl, ◌≡◌}
+use Rattle.order_checker.proofs.Prelude.{Item, List, Stand, home_with_event, length, length-set, refl, ◌≡◌}
 
 pub length-event : (home : List Stand) (item : Item) → length (home_with_event home item) ≡ length home
 length-event home (Ran r) = refl

@@ -1,19 +1,9 @@
 -- An execution from where its home and its register stand.
-use Rattle.home_types.specs.Commands.{Effect, Execution, command_effect, execute, fails, routine_execution}
+use Rattle.order_checker.proofs.Prelude.{Answer, Command, Effect, Execution, Kind, List, None, Option, Some, Stand, [], ap, append-nil, append_assoc, arith, command_effect, drop, drop-drop, drop_all, drop_more, execute, fails, false, fold, get_or, if◌then◌else◌, length, not, option_map, option_map_or, refl, routine_execution, slice_get, slice_get-get_or, slice_get_past, slice_set, sym, true, ℕ, ⊎_elim, ◌&&◌, ◌++◌, ◌+◌, ◌<◌, ◌∙◌, ◌∷◌, ◌≡◌, ◌≤◌}
 use Rattle.home_types.specs.HomeStates.{stand_at}
 use Rattle.home_types.specs.Kinds.{kind_at}
-use Rattle.home_types.specs.declared.commands.Answer.{Answer}
-use Rattle.home_types.specs.declared.commands.Command.{Command}
-use Rattle.home_types.specs.declared.kinds.Kind.{Kind}
-use Rattle.home_types.specs.declared.worlds.Stand.{Stand}
 use Rattle.order_checker.specs.Answers.{first_wrong, is_printed, is_same}
-use Rattle.std.proofs.Common.{List, None, Option, Some, [], ap, append-nil, append_assoc, arith, drop, drop-drop, false, fold, get_or, length, option_map, refl, slice_get, sym, true, ℕ, ◌+◌, ◌++◌, ◌<◌, ◌∙◌, ◌≡◌, ◌≤◌, ◌∷◌, if◌then◌else◌, not, ◌&&◌}
-use Rattle.std.proofs.lemmas.List.{drop_all, drop_more}
-use Rattle.std.proofs.Common.{⊎_elim}
 use Rattle.std.proofs.lemmas.Bool.{cases_lt}
-use Rattle.std.proofs.lemmas.Option.{slice_get-get_or, slice_get_past}
-use Rattle.std.specs.Option.{option_map_or}
-use Rattle.std.specs.Prelude.{slice_set}
 
 -- what the next command does
 abbrev pub effect_at : List Kind → List Stand → ℕ → Command → Effect

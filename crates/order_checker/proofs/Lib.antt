@@ -1,6 +1,7 @@
 mod Bytes
 mod Numbers
 mod Notes
+mod Prelude
 mod Told
 mod Walking
 mod Passing

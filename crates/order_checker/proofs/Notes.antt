@@ -1,11 +1,6 @@
 -- Lines behind each other.
-use Rattle.order_checker.specs.Lines.{has_no_line, is_note, line_at, lines_of, lines_of_pieces, pieces_of}
-use Rattle.std.proofs.Common.{Bool, List, None, Some, [], ap, arith, drop, false, length, nat_lt, refl, sym, take, true, ℕ, ◌+◌, ◌-◌, ◌++◌, ◌<◌, ◌≤◌, ◌∙◌, ◌≡◌, ◌∷◌, ◌==◌, ◌||◌, if◌then◌else◌}
-use Rattle.std.proofs.lemmas.Grind.{common_steps}
-use Rattle.std.proofs.lemmas.List.{length-drop, take_all}
+use Rattle.order_checker.proofs.Prelude.{Bool, List, None, Some, [], ap, arith, common_steps, drop, fails_before_first, false, has_no_line, if◌then◌else◌, is_note, length, length-drop, line_at, lines_of, lines_of_pieces, nat_lt, pieces_of, position, position_or_len, refl, slice_split, sym, take, take_all, true, ℕ, ◌++◌, ◌+◌, ◌-◌, ◌<◌, ◌==◌, ◌||◌, ◌∙◌, ◌∷◌, ◌≡◌, ◌≤◌}
 use Rattle.std.proofs.lemmas.List.Splits.{length-slice_split, slice_split_first, slice_split_none}
-use Rattle.std.proofs.lemmas.List.Sums.{fails_before_first}
-use Rattle.std.specs.List.{position, position_or_len, slice_split}
 
 -- the first place at which a test passes
 position-first : (p : ℕ → Bool) (xs : List ℕ) (i : ℕ) → position p xs ≡ Some i → (position_or_len p xs < length xs) × (position_or_len p xs ≡ i)

@@ -1,12 +1,9 @@
 -- What `parse` reads in a word of digits.
-use Rattle.order_checker.specs.Words.{is_numeral, number_of}
-use Rattle.std.proofs.Common.{Err, List, None, Ok, Some, [], ap, arith, length, nat_lt, refl, rules, sym, true, false, ℕ, ◌<◌, ◌^◌, ◌≡◌, ◌∷◌}
-use Rattle.std.proofs.lemmas.Grind.{common_steps}
+use Rattle.order_checker.proofs.Prelude.{Err, List, None, Ok, Some, [], ap, arith, common_steps, false, is_numeral, length, list_all, nat_lt, number_of, refl, rules, sym, true, ℕ, ◌<◌, ◌^◌, ◌∷◌, ◌≡◌}
 use Rattle.std.proofs.lemmas.Str.Ascii.{IsAscii-cons, IsAscii-nil}
 use Rattle.std.proofs.lemmas.Str.Parse.{IsDigitsTest, IsNumeralModel, numerals_by_value, parse_digits}
 use Rattle.std.proofs.lemmas.Str.{IsUtf8-from_ascii}
 use Rattle.std.specs.Char.{is_ascii_digit}
-use Rattle.std.specs.List.{list_all}
 use Rattle.std.specs.Str.Parse.{ParsesUnsigned, digits_value}
 use Rattle.std.specs.Str.{IsAscii, IsUtf8}
 

@@ -1,18 +1,9 @@
 -- The items of an order, one after another, against the printed answers.
-use Rattle.command_rules.specs.Rosters.{Run, commands_of}
+use Rattle.order_checker.proofs.Prelude.{Answer, Err, Item, Kind, List, None, Ok, Option, Place, Result, Run, Some, Stand, [], ap, commands_of, drop, drop_all, drop_more, false, fold, get_or, length, option_map, option_or, refl, routine_execution, sym, unwrap_or, ℕ, ◌++◌, ◌+◌, ◌<◌, ◌∙◌, ◌∷◌, ◌≡◌, ◌≤◌}
 use Rattle.command_rules.specs.Serial.{SerialRun, Served, serve}
-use Rattle.home_types.specs.Commands.{routine_execution}
-use Rattle.home_types.specs.declared.commands.Answer.{Answer}
 use Rattle.home_types.specs.declared.items.Item.TheVariants.{Back, Failed, Ran}
-use Rattle.home_types.specs.declared.items.Item.{Item}
-use Rattle.home_types.specs.declared.kinds.Kind.{Kind}
 use Rattle.home_types.specs.declared.numbers.RunNo.{RunNo}
-use Rattle.home_types.specs.declared.worlds.Stand.{Stand}
 use Rattle.order_checker.specs.Answers.{first_found, home_after, home_behind, item_wrong, wrong_of}
-use Rattle.order_checker.specs.declared.verdicts.Place.{Place}
-use Rattle.std.proofs.Common.{Err, List, None, Ok, Option, Result, Some, [], ap, drop, false, fold, get_or, length, option_map, refl, sym, unwrap_or, ℕ, ◌+◌, ◌++◌, ◌<◌, ◌∙◌, ◌≡◌, ◌≤◌, ◌∷◌}
-use Rattle.std.proofs.lemmas.List.{drop_all, drop_more}
-use Rattle.std.specs.Option.{option_or}
 
 -- the home behind a run, where nothing of it is wrong
 abbrev pub behind_run : Option Place → List Stand → (List Stand → Result (List Stand) Place) → Result (List Stand) Place

@@ -1,27 +1,10 @@
 -- The steps of each walk over a line: an item that is refused, and one that is passed.
 use Rattle.command_rules.specs.Items.{is_ran}
-use Rattle.command_rules.specs.Rosters.{device_no}
-use Rattle.home_types.specs.declared.commands.Answer.{Answer}
-use Rattle.home_types.specs.declared.commands.Command.{Command}
-use Rattle.home_types.specs.declared.items.Item.{Item}
-use Rattle.home_types.specs.declared.worlds.Stand.{Stand}
+use Rattle.order_checker.proofs.Prelude.{Answer, Bor, Command, Err, Item, List, None, Ok, OrderSetting, Place, RunEnd, Some, Stand, [], ap, arith, device_no, drop, false, get_or, get_or-map, get_or_default, is_none, item_of, length, length-map, list_any, next_answer, next_device_told, next_item, next_stand, next_stands, ok_or, option_map_or, order_place, plain_end, plain_ends, required, slice_get, slice_index_or, stand_by_word, stands_so, sym, texts, true, walk, ℕ, ◌++◌, ◌+◌, ◌<◌, ◌>>=◌, ◌||◌, ◌∙◌, ◌∷◌, ◌≡◌}
 use Rattle.order_checker.proofs.Walking.{walk-passed, walk-refused}
-use Rattle.order_checker.specs.Ends.{plain_end, plain_ends}
-use Rattle.order_checker.specs.HomeLines.{next_device_told, next_stand, stand_by_word, stands_so}
-use Rattle.order_checker.specs.OrderLines.{OrderSetting, item_of, next_item, next_stands, order_place}
-use Rattle.order_checker.specs.RunLines.{next_answer}
-use Rattle.order_checker.specs.Steps.{required, walk, ◌>>=◌}
 use Rattle.order_checker.specs.Values.{answer_of}
-use Rattle.order_checker.specs.Words.{texts}
-use Rattle.order_checker.specs.declared.run_lines.RunEnd.{RunEnd}
 use Rattle.order_checker.specs.declared.verdicts.Place.TheVariants.{Device, Home, Order}
-use Rattle.order_checker.specs.declared.verdicts.Place.{Place}
 use Rattle.routine_reader.specs.declared.scripts.DeviceText.{DeviceText}
-use Rattle.std.proofs.Common.{Bor, Err, List, None, Ok, Some, [], ap, arith, drop, false, get_or, length, sym, true, ℕ, ◌+◌, ◌++◌, ◌<◌, ◌∙◌, ◌≡◌, ◌∷◌}
-use Rattle.std.proofs.lemmas.List.{get_or-map, get_or_default, length-map}
-use Rattle.std.specs.List.{list_any}
-use Rattle.std.specs.Option.{option_map_or}
-use Rattle.std.specs.Prelude.{is_none, ok_or, slice_get, slice_index_or, ◌||◌}
 
 -- ---- where devices stand
 

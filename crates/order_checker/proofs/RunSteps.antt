@@ -1,14 +1,7 @@
 -- The steps of the walk over the lines of the runs.
 use Rattle.order_checker.proofs.Walking.{walk-passed, walk-refused}
-use Rattle.order_checker.specs.Ends.{plain_end, plain_ends}
-use Rattle.order_checker.specs.Steps.{walk, ◌>>=◌}
-use Rattle.order_checker.specs.Windows.{next_run_told, run_text_told}
-use Rattle.order_checker.specs.declared.run_lines.RunEnd.{RunEnd}
-use Rattle.order_checker.specs.declared.verdicts.Place.{Place}
+use Rattle.order_checker.proofs.Prelude.{Err, List, Ok, Option, Place, RunEnd, Script, [], ap, drop, get_or, get_or_default, length, length-map, map-append, next_run_told, plain_end, plain_ends, run_text_told, sym, walk, ℕ, ◌++◌, ◌+◌, ◌<◌, ◌>>=◌, ◌∙◌, ◌∷◌, ◌≡◌}
 use Rattle.routine_reader.specs.declared.scripts.RunText.{RunText}
-use Rattle.routine_reader.specs.declared.scripts.Script.{Script}
-use Rattle.std.proofs.Common.{Err, List, Ok, Option, [], ap, drop, get_or, length, sym, ℕ, ◌+◌, ◌++◌, ◌<◌, ◌∙◌, ◌≡◌, ◌∷◌}
-use Rattle.std.proofs.lemmas.List.{get_or_default, length-map, map-append}
 
 counted : (ends : List RunEnd) (i : ℕ) → length ends ≡ i → length (plain_ends ends) ≡ i
 counted ends i count = length-map ends plain_end ∙ count

@@ -1,9 +1,7 @@
 -- The runs of a window of a sound script.
-use Rattle.command_rules.specs.Rosters.{commands_of, runs_of}
+use Rattle.order_checker.proofs.Prelude.{All, Command, IsReader, List, None, Option, Script, Some, [], ap, arith, commands_of, get_or, get_or_from_slice_get, length, length-map, map, option_map, refl, runs_of, slice_get, slice_get-map, slice_get_within, subst, suc, sym, unwrap_or, zero, ℕ, ◌<◌, ◌∙◌, ◌∷◌, ◌≡◌, ◌≤◌}
 use Rattle.command_rules.specs.declared.rosters.Roster.{Roster}
 use Rattle.home_types.specs.Limits.{most_commands, most_windows}
-use Rattle.home_types.specs.declared.commands.Command.{Command}
-use Rattle.order_checker.specs.Readers.{IsReader}
 use Rattle.order_checker.specs.declared.order_lines.OrderReader.{OrderReader}
 use Rattle.routine_reader.proofs.Cited.{runs-there}
 use Rattle.routine_reader.specs.Rosters.{routine_commands, run_of_text, script_runs}
@@ -11,12 +9,8 @@ use Rattle.routine_reader.specs.Scripts.{plain_device, plain_routine, plain_scri
 use Rattle.routine_reader.specs.Sound.{IsSound, IsSoundRoutine, IsSoundWindow}
 use Rattle.routine_reader.specs.declared.scripts.RoutineText.{RoutineText}
 use Rattle.routine_reader.specs.declared.scripts.RunText.{RunText}
-use Rattle.routine_reader.specs.declared.scripts.Script.{Script}
 use Rattle.routine_reader.specs.declared.scripts.WindowText.{WindowText}
-use Rattle.std.proofs.Common.{All, List, None, Option, Some, [], ap, arith, get_or, length, map, option_map, refl, slice_get, subst, suc, sym, unwrap_or, zero, ℕ, ◌<◌, ◌∙◌, ◌≡◌, ◌≤◌, ◌∷◌}
 use Rattle.std.proofs.lemmas.List.Elements.{All-get_or}
-use Rattle.std.proofs.lemmas.List.{length-map}
-use Rattle.std.proofs.lemmas.Option.{get_or_from_slice_get, slice_get-map, slice_get_within}
 
 pub seen_at : {X Y : Type 0} (view : X → Y) (P : Y → Type 0) (xs : List X) (k : ℕ) (x : X) → All P (map view xs) → slice_get xs k ≡ Some x → P (view x)
 seen_at view P xs k x all at =

@@ -1,10 +1,5 @@
 -- The answers of a run, by its number.
-use Rattle.order_checker.specs.Ends.{plain_end, plain_ends}
-use Rattle.order_checker.specs.RunLines.{told_of}
-use Rattle.order_checker.specs.declared.run_lines.RunEnd.{RunEnd}
-use Rattle.std.proofs.Common.{List, None, Option, Some, ap, option_map, refl, slice_get, ℕ, ◌-◌, ◌==◌, ◌∙◌, ◌≡◌, if◌then◌else◌}
-use Rattle.std.proofs.lemmas.Option.{slice_get-map}
-use Rattle.std.specs.Prelude.{option_and_then}
+use Rattle.order_checker.proofs.Prelude.{List, None, Option, RunEnd, Some, ap, if◌then◌else◌, option_and_then, option_map, plain_end, plain_ends, refl, slice_get, slice_get-map, told_of, ℕ, ◌-◌, ◌==◌, ◌∙◌, ◌≡◌}
 
 end-of : (end : Option RunEnd) → option_and_then (λ told. told) (option_map plain_end end) ≡ option_and_then plain_end end
 end-of None = refl

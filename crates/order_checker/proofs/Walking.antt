@@ -1,10 +1,7 @@
 -- A walk along a list, step by step.
-use Rattle.order_checker.specs.Steps.{IsTold, walk, ◌>>=◌}
+use Rattle.order_checker.proofs.Prelude.{Err, IsTold, List, Ok, Place, Result, ap, drop, drop_all, drop_more, get_or, length, subst, sym, walk, ℕ, ◌+◌, ◌<◌, ◌>>=◌, ◌∙◌, ◌≡◌, ◌≤◌}
 use Rattle.order_checker.specs.declared.verdicts.Halt.TheVariants.{At, Memory}
 use Rattle.order_checker.specs.declared.verdicts.Halt.{Halt}
-use Rattle.order_checker.specs.declared.verdicts.Place.{Place}
-use Rattle.std.proofs.Common.{Err, List, Ok, Result, ap, drop, get_or, length, subst, sym, ℕ, ◌+◌, ◌<◌, ◌∙◌, ◌≡◌, ◌≤◌}
-use Rattle.std.proofs.lemmas.List.{drop_all, drop_more}
 use Rattle.std.specs.Result.{IsErrAnd}
 
 walk-next : {S X E : Type 0} (step : S → X → Result S E) (state : S) (items : List X) (i : ℕ) (item : X)

@@ -1,18 +1,12 @@
 -- The steps of the walk over the windows.
 use Rattle.order_checker.proofs.Walking.{walk-passed, walk-refused}
-use Rattle.order_checker.specs.Readers.{AreWindowsTold, progress_told}
-use Rattle.order_checker.specs.Records.{in_window, next_window_told}
-use Rattle.order_checker.specs.Steps.{IsTold, walk}
-use Rattle.order_checker.specs.Windows.{DayProgress, window_told}
+use Rattle.order_checker.proofs.Prelude.{AreWindowsTold, DayProgress, Err, IsTold, List, Ok, Place, Result, Script, ap, drop, get_or, in_window, length, next_window_told, progress_told, walk, window_told, ℕ, ◌+◌, ◌<◌, ◌≡◌}
 use Rattle.order_checker.specs.declared.verdicts.Halt.TheVariants.{At, Memory}
 use Rattle.order_checker.specs.declared.verdicts.Halt.{Halt}
-use Rattle.order_checker.specs.declared.verdicts.Place.{Place}
 use Rattle.order_checker.specs.declared.verdicts.Verdict.TheVariants.{Differs}
 use Rattle.order_checker.specs.declared.verdicts.Verdict.{Verdict}
 use Rattle.order_checker.specs.declared.windows.Progress.{Progress}
-use Rattle.routine_reader.specs.declared.scripts.Script.{Script}
 use Rattle.routine_reader.specs.declared.scripts.WindowText.{WindowText}
-use Rattle.std.proofs.Common.{Err, List, Ok, Result, ap, drop, get_or, length, ℕ, ◌+◌, ◌<◌, ◌≡◌}
 
 pub window-refused : (script : Script) (before : DayProgress) (windows : List WindowText) (i : ℕ) (window : WindowText) → i < length windows → window ≡ get_or windows i window
     → (place : Place) → window_told script before window ≡ Err place → walk (next_window_told script) before (drop i windows) ≡ Err (Differs (before.windows + 1) place)

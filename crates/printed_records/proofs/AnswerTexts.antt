@@ -1,37 +1,11 @@
 -- The answers of a run, read again.
-use Rattle.day_report.specs.Lines.{answer_word, answer_words}
-use Rattle.day_report.specs.Words.{answer_text, states_of}
-use Rattle.history_book.specs.declared.entries.Entry.TheVariants.{Arrived, Did, Doomed, Ended, Fell, Placed, Rose, Undid}
-use Rattle.history_book.specs.declared.entries.Entry.{Entry}
-use Rattle.history_book.specs.declared.entries.Kept.{Kept}
-use Rattle.home_types.specs.Kinds.{has_value, kind_at}
-use Rattle.home_types.specs.declared.commands.Answer.TheVariants.{Down, Fine, Found, Skipped}
-use Rattle.home_types.specs.declared.commands.Answer.{Answer}
-use Rattle.home_types.specs.declared.commands.Command.{Command}
-use Rattle.home_types.specs.declared.kinds.Kind.{Kind}
-use Rattle.order_checker.specs.RunLines.{answers_told, next_answer}
-use Rattle.order_checker.specs.Steps.{required, walk, ◌>>=◌}
-use Rattle.order_checker.specs.Values.{answer_of}
-use Rattle.order_checker.specs.declared.verdicts.Place.{Place}
+use Rattle.printed_records.proofs.Prelude.{Answer, AreTyped, Arrived, Bool, Command, Did, Doomed, Down, Ended, Entry, Fell, Fine, Found, IsSound, IsTyped, Kept, Kind, List, None, Ok, Option, Place, Placed, Rose, RoutineText, RunText, Script, Skipped, Some, Undid, WindowText, [], answer_of, answer_text, answer_word, answer_words, answers_told, ap, append_assoc, arith, common_steps, cons_option, enumerate_from, false, filter_map, flat_map, has_value, if◌then◌else◌, kind_at, kinds_of, length, length-append, map, next_answer, numbered_answers, numbered_in, plain_script, refl, required, slice_get, states_of, subst, sym, true, walk, ℕ, ◌++◌, ◌+◌, ◌==◌, ◌>>=◌, ◌∙◌, ◌∷◌, ◌≡◌}
 use Rattle.printed_records.proofs.LineTexts.{spaced}
 use Rattle.printed_records.proofs.Names.{sound-device}
 use Rattle.printed_records.proofs.Plain.{AreWords, word-plain}
 use Rattle.printed_records.proofs.Runs.{IsRunOf, command-of, device-kind, states-at}
 use Rattle.printed_records.proofs.Values.{IsAnswerOf, answer-plain, answer-read}
 use Rattle.printed_records.proofs.WordReads.{AreRead, read-length, reads}
-use Rattle.printed_records.specs.Ends.{numbered_answers, numbered_in}
-use Rattle.printed_records.specs.Typed.{AreTyped, IsTyped}
-use Rattle.routine_reader.specs.Rosters.{kinds_of}
-use Rattle.routine_reader.specs.Scripts.{plain_script}
-use Rattle.routine_reader.specs.Sound.{IsSound}
-use Rattle.routine_reader.specs.declared.scripts.RoutineText.{RoutineText}
-use Rattle.routine_reader.specs.declared.scripts.RunText.{RunText}
-use Rattle.routine_reader.specs.declared.scripts.Script.{Script}
-use Rattle.routine_reader.specs.declared.scripts.WindowText.{WindowText}
-use Rattle.std.proofs.Common.{Bool, List, None, Ok, Option, Some, [], ap, append_assoc, arith, false, length, length-append, map, refl, subst, sym, true, ℕ, ◌+◌, ◌++◌, ◌==◌, ◌∙◌, ◌≡◌, ◌∷◌}
-use Rattle.std.proofs.lemmas.Grind.{common_steps}
-use Rattle.std.specs.List.{cons_option, enumerate_from, filter_map, flat_map}
-use Rattle.std.specs.Prelude.{if◌then◌else◌, slice_get}
 
 -- an answer with its command's number, as it is printed
 abbrev pub numbered_text : Script → WindowText → ℕ → ℕ × Answer → List ℕ

@@ -1,12 +1,6 @@
 -- The cause of an aborted run, read again.
-use Rattle.command_rules.specs.Rosters.{commands_of, no_command}
-use Rattle.day_report.specs.Words.{cause_text, device_name, states_of, value_text}
-use Rattle.history_book.specs.declared.entries.Cause.TheVariants.{DownAtEnd, Lost, MustDown, Refuted, Revoked}
-use Rattle.history_book.specs.declared.entries.Cause.{Cause}
-use Rattle.home_types.specs.Kinds.{has_value, kind_at}
-use Rattle.home_types.specs.declared.commands.Command.{Command}
-use Rattle.order_checker.specs.RunLines.{command_named, command_numbered, is_cause, is_run_among, is_value_of}
-use Rattle.order_checker.specs.Values.{is_device, value_of}
+use Rattle.printed_records.proofs.Prelude.{Cause, Command, DeviceText, DownAtEnd, IsCauseFor, IsSound, List, Lost, MustDown, Refuted, Revoked, RoutineText, RunText, Script, Some, WindowText, [], ap, append_assoc, arith, bytes_eq, cause_text, codes, command_named, command_numbered, commands_of, common_steps, decimal, device_name, false, get_or, get_or_from_slice_get, has_value, is_cause, is_run_among, is_some, is_value_of, kind_at, kinds_of, length, length-map, list_any_at, map, nat_le, no_command, option_and_then, option_map_or, plain_script, refl, run_of_text, slice_get, slice_get-get_or, slice_get_within, states_of, subst, suc, sym, true, value_of, value_text, ℕ, ◌&&◌, ◌++◌, ◌+◌, ◌<◌, ◌^◌, ◌∙◌, ◌∷◌, ◌≡◌, ◌≤◌}
+use Rattle.order_checker.specs.Values.{is_device}
 use Rattle.printed_records.proofs.Firsts.{bytes_eq-self}
 use Rattle.printed_records.proofs.LineTexts.{spaced}
 use Rattle.printed_records.proofs.Names.{name-word, sound-device, sound-routine}
@@ -14,24 +8,6 @@ use Rattle.printed_records.proofs.Numerals.{decimal-word, number-decimal}
 use Rattle.printed_records.proofs.Plain.{AreWords, IsWord, word-plain, word-seen}
 use Rattle.printed_records.proofs.Runs.{IsRunOf, command-of, device-kind, device-name, device-there, run-commands, states-at}
 use Rattle.printed_records.proofs.Values.{value-read, value-text}
-use Rattle.printed_records.specs.Typed.{IsCauseFor}
-use Rattle.routine_reader.specs.Rosters.{kinds_of, run_of_text}
-use Rattle.routine_reader.specs.Scripts.{plain_script}
-use Rattle.routine_reader.specs.Sound.{IsSound}
-use Rattle.routine_reader.specs.declared.scripts.DeviceText.{DeviceText}
-use Rattle.routine_reader.specs.declared.scripts.RoutineText.{RoutineText}
-use Rattle.routine_reader.specs.declared.scripts.RunText.{RunText}
-use Rattle.routine_reader.specs.declared.scripts.Script.{Script}
-use Rattle.routine_reader.specs.declared.scripts.WindowText.{WindowText}
-use Rattle.std.proofs.Common.{List, Some, [], ap, append_assoc, arith, false, get_or, length, map, refl, subst, suc, sym, true, ℕ, ◌&&◌, ◌+◌, ◌++◌, ◌<◌, ◌^◌, ◌≤◌, ◌∙◌, ◌≡◌, ◌∷◌}
-use Rattle.std.proofs.lemmas.Grind.{common_steps}
-use Rattle.std.proofs.lemmas.List.Folds.{list_any_at}
-use Rattle.std.proofs.lemmas.List.{length-map}
-use Rattle.std.proofs.lemmas.Option.{get_or_from_slice_get, slice_get-get_or, slice_get_within}
-use Rattle.std.specs.Fmt.{decimal}
-use Rattle.std.specs.Option.{option_map_or}
-use Rattle.std.specs.Str.{bytes_eq}
-use Rattle.std.specs.Prelude.{codes, is_some, nat_le, option_and_then, slice_get}
 
 -- the words of a cause
 abbrev pub cause_words : Script → WindowText → ℕ → Cause → List (List ℕ)

@@ -1,27 +1,6 @@
 -- The cause of an aborted run names its own commands and values, and devices and runs that there are.
-use Rattle.command_rules.specs.Rosters.{Run, command_at, commands_of, is_run, no_command}
-use Rattle.history_book.proofs.Cited.{put_all}
-use Rattle.history_book.specs.Histories.{entry, reading}
-use Rattle.history_book.specs.Readings.{OfRun, Reading, nothing_read, same_answer}
-use Rattle.history_book.specs.Settings.{Setting}
-use Rattle.history_book.specs.WellFormed.{IsWellFormed, along, cause_fits, may_follow, same_cause}
-use Rattle.history_book.specs.declared.entries.Cause.TheVariants.{DownAtEnd, Lost, MustDown, Refuted, Revoked}
-use Rattle.history_book.specs.declared.entries.Cause.{Cause}
-use Rattle.history_book.specs.declared.entries.End.TheVariants.{Aborted, Committed}
-use Rattle.history_book.specs.declared.entries.End.{End}
-use Rattle.history_book.specs.declared.entries.Entry.TheVariants.{Arrived, Did, Doomed, Ended, Fell, Placed, Rose, Undid}
-use Rattle.history_book.specs.declared.entries.Entry.{Entry}
-use Rattle.home_types.specs.Kinds.{has_value, kind_at}
-use Rattle.home_types.specs.declared.commands.Answer.TheVariants.{Down, Fine, Found, Skipped}
-use Rattle.home_types.specs.declared.commands.Answer.{Answer}
-use Rattle.home_types.specs.declared.commands.Command.{Command}
-use Rattle.home_types.specs.declared.kinds.Kind.{Kind}
-use Rattle.home_types.specs.declared.numbers.RunNo.{RunNo}
+use Rattle.printed_records.proofs.Prelude.{Aborted, Answer, Arrived, Bool, Cause, Command, Committed, Did, Doomed, Down, DownAtEnd, End, Ended, Entry, Fell, Fine, Found, IsTrue, IsTyped, IsWellFormed, Kind, List, Lost, MustDown, None, OfRun, Option, Placed, Reading, Refuted, Revoked, Rose, Run, RunNo, Setting, Skipped, Some, Undid, [], along, ap, arith, cause_fits, command_at, commands_of, common_steps, entry, false, fold, has_value, is_run, is_some, kind_at, length, may_follow, no_command, nothing_read, option_map, put_all, reading, refl, same_answer, same_cause, slice_get, slice_index_or, subst, subst₂, suc, sym, true, true≢false, unwrap_or, zero, ℕ, ◌<◌, ◌∷◌, ◌≡◌, ◌≤◌}
 use Rattle.printed_records.proofs.TypedAnswers.{AllSuit, SuitSoFar, none_suit, suits_step}
-use Rattle.printed_records.specs.Typed.{IsTyped}
-use Rattle.std.proofs.Common.{Bool, List, None, Option, Some, [], ap, arith, false, fold, length, option_map, refl, subst, subst₂, suc, sym, true, true≢false, unwrap_or, zero, ℕ, ◌<◌, ◌≤◌, ◌≡◌, ◌∷◌}
-use Rattle.std.proofs.lemmas.Grind.{common_steps}
-use Rattle.std.specs.Prelude.{IsTrue, is_some, slice_get, slice_index_or}
 
 -- what a cause names is there
 abbrev pub NamesWell : Setting → ℕ → Cause → Type 0

@@ -1,37 +1,8 @@
 -- The text of a day, read again.
-use Rattle.day_report.specs.Days.{abort_count, commit_count, counts_line, day_text, day_text_from, head_text, is_abort, is_commit, total_text, window_lines, window_text, window_texts_from}
-use Rattle.history_book.specs.declared.records.WindowRecord.{WindowRecord}
-use Rattle.home_types.specs.declared.modes.Mode.{Mode}
-use Rattle.home_types.specs.declared.modes.Scheduler.{Scheduler}
-use Rattle.home_types.specs.declared.modes.Visibility.TheVariants.{Eventual, Global, Partitioned, Weak}
-use Rattle.home_types.specs.declared.modes.Visibility.{Visibility}
-use Rattle.home_types.specs.declared.worlds.Stand.{Stand}
-use Rattle.order_checker.proofs.Cited.{window_sound}
-use Rattle.order_checker.specs.Heads.{is_head}
-use Rattle.order_checker.specs.Lines.{line_at, lines_of}
-use Rattle.order_checker.specs.Records.{first_progress, in_window, next_window_told, record_told, verdict, verdict_of}
-use Rattle.order_checker.specs.Steps.{required, walk, ◌>>=◌}
-use Rattle.order_checker.specs.Totals.{is_total}
-use Rattle.order_checker.specs.Windows.{window_told}
-use Rattle.order_checker.specs.declared.verdicts.Place.TheVariants.{Head, Total}
-use Rattle.order_checker.specs.declared.verdicts.Verdict.TheVariants.{Agrees, Differs}
+use Rattle.printed_records.proofs.Prelude.{Agrees, Bool, DayFits, Differs, Eventual, Global, Head, IsSound, List, Mode, Ok, Partitioned, Scheduler, Script, Some, Stand, Total, Visibility, Weak, WindowFits, WindowRecord, WindowText, [], abort_count, add-zero, ap, append_assoc, ap₂, arith, codes, commit_count, count_by, counts_line, day_text, day_text_from, ends_told, enumerate_from, first_progress, flat_map, has_order, head_text, home_before, in_window, is_abort, is_commit, is_head, is_some, is_total, length, length-append, length-map, line_at, lines_of, next_window_told, option_map, option_map_or, plain_script, plain_window, prints_order, record_told, refl, required, slice_get, start_home, subst, suc, sum_by, sum_by-cons, sym, total_text, true, true≢false, unwrap_or, verdict, verdict_of, walk, window_lines, window_sound, window_text, window_texts_from, window_told, ℕ, ◌*◌, ◌++◌, ◌+◌, ◌<◌, ◌>>=◌, ◌^◌, ◌∙◌, ◌∷◌, ◌≡◌, ◌≢◌, ◌≤◌}
 use Rattle.printed_records.proofs.Heads.{head-printed}
 use Rattle.printed_records.proofs.Totals.{total-printed}
 use Rattle.printed_records.proofs.WindowTexts.{window-printed}
-use Rattle.printed_records.specs.Ends.{ends_told}
-use Rattle.printed_records.specs.FitWindows.{DayFits, WindowFits, home_before}
-use Rattle.printed_records.specs.Modes.{has_order, prints_order}
-use Rattle.routine_reader.specs.Rosters.{start_home}
-use Rattle.routine_reader.specs.Scripts.{plain_script, plain_window}
-use Rattle.routine_reader.specs.Sound.{IsSound}
-use Rattle.routine_reader.specs.declared.scripts.Script.{Script}
-use Rattle.routine_reader.specs.declared.scripts.WindowText.{WindowText}
-use Rattle.std.proofs.Common.{Bool, List, Ok, Some, [], add-zero, ap, ap₂, append_assoc, arith, length, length-append, option_map, refl, subst, suc, sym, true, true≢false, unwrap_or, ℕ, ◌*◌, ◌+◌, ◌++◌, ◌<◌, ◌≤◌, ◌^◌, ◌∙◌, ◌≡◌, ◌≢◌, ◌∷◌}
-use Rattle.std.proofs.lemmas.List.Sums.{sum_by-cons}
-use Rattle.std.proofs.lemmas.List.{length-map}
-use Rattle.std.specs.List.{count_by, enumerate_from, flat_map}
-use Rattle.std.specs.Option.{option_map_or}
-use Rattle.std.specs.Prelude.{codes, is_some, slice_get, sum_by}
 
 get-after : {X : Type 0} (front : List X) (x : X) (rest : List X) → slice_get (front ++ x ∷ rest) (length front) ≡ Some x
 get-after [] x rest = refl

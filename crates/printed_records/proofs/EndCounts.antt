@@ -1,26 +1,6 @@
 -- How many runs of a window committed, and how many were aborted: by the history, by the reading, by the ends that are told.
-use Rattle.command_rules.specs.Rosters.{is_run}
-use Rattle.day_report.specs.Days.{is_abort, is_commit}
-use Rattle.history_book.proofs.Cited.{end_is, none_is, put_keeps}
-use Rattle.history_book.specs.Books.{end_of}
-use Rattle.history_book.specs.Histories.{entries_of, entry, reading}
-use Rattle.history_book.specs.Readings.{OfRun, Reading, nothing_read, put}
-use Rattle.history_book.specs.Settings.{Setting, run_numbers}
-use Rattle.history_book.specs.WellFormed.{IsWellFormed, along, may_follow}
-use Rattle.history_book.specs.declared.entries.End.TheVariants.{Aborted, Committed}
-use Rattle.history_book.specs.declared.entries.End.{End}
-use Rattle.history_book.specs.declared.entries.Entry.TheVariants.{Arrived, Did, Doomed, Ended, Fell, Placed, Rose, Undid}
-use Rattle.history_book.specs.declared.entries.Entry.{Entry}
-use Rattle.history_book.specs.declared.entries.Kept.{Kept}
-use Rattle.legal_days.proofs.Cited.{count_cons}
+use Rattle.printed_records.proofs.Prelude.{Aborted, Arrived, Bool, Committed, Did, Doomed, End, Ended, Entry, Fell, IsTrue, IsWellFormed, Kept, List, None, OfRun, Option, Placed, Reading, Rose, RunText, Setting, Some, Undid, WindowText, [], along, ap, ap₂, arith, common_steps, cond, count_by, count_cons, end_is, end_of, ends_told, entries_of, entry, enumerate_from, false, fold, is_abort, is_commit, is_run, is_some, length, list_all, map, may_follow, none_is, nothing_read, put, put_keeps, range_with_len, reading, refl, run_numbers, suc, sym, told_end, true, true≢false, zero, ℕ, ◌+◌, ◌<◌, ◌==◌, ◌∙◌, ◌∷◌, ◌≡◌, ◌≤◌}
 use Rattle.printed_records.proofs.CausesKept.{run-among}
-use Rattle.printed_records.specs.Ends.{ends_told, told_end}
-use Rattle.routine_reader.specs.declared.scripts.RunText.{RunText}
-use Rattle.routine_reader.specs.declared.scripts.WindowText.{WindowText}
-use Rattle.std.proofs.Common.{Bool, List, None, Option, Some, [], ap, ap₂, arith, cond, false, fold, length, map, refl, suc, sym, true, true≢false, zero, ℕ, ◌+◌, ◌<◌, ◌==◌, ◌≤◌, ◌∙◌, ◌≡◌, ◌∷◌}
-use Rattle.std.proofs.lemmas.Grind.{common_steps}
-use Rattle.std.specs.List.{count_by, enumerate_from, list_all, range_with_len}
-use Rattle.std.specs.Prelude.{IsTrue, is_some}
 
 -- the end is a commit
 abbrev pub commits : Option End → Bool

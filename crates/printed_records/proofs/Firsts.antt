@@ -1,15 +1,7 @@
 -- First places in a list, and where a text is cut at a byte.
-use Rattle.order_checker.specs.Words.{Parts, cut_at}
+use Rattle.printed_records.proofs.Prelude.{All-head, All-tail, Bool, List, None, Parts, Some, [], ap, arith, bytes_eq, bytes_eq-Decides, common_steps, cond, cut_at, drop, false, length, length-append, list_any, lt-ltb, nat_lt, not, option_map, position, position_or_len, refl, slice_get, slice_get_within, suc, take, true, zero, ℕ, ◌++◌, ◌+◌, ◌<◌, ◌==◌, ◌∙◌, ◌∷◌, ◌≡◌}
 use Rattle.printed_records.proofs.Plain.{Lacks}
-use Rattle.std.proofs.Common.{Bool, List, None, Some, [], ap, arith, cond, drop, false, length, length-append, lt-ltb, nat_lt, not, option_map, refl, suc, take, true, zero, ℕ, ◌+◌, ◌++◌, ◌<◌, ◌==◌, ◌∙◌, ◌≡◌, ◌∷◌}
 use Rattle.std.proofs.Math.Seq.{take-append_seam}
-use Rattle.std.proofs.lemmas.Grind.{common_steps}
-use Rattle.std.proofs.lemmas.List.Elements.{All-head, All-tail}
-use Rattle.std.proofs.lemmas.Option.{slice_get_within}
-use Rattle.std.proofs.lemmas.Slice.Eq.{bytes_eq-Decides}
-use Rattle.std.specs.List.{list_any, position, position_or_len}
-use Rattle.std.specs.Prelude.{slice_get}
-use Rattle.std.specs.Str.{bytes_eq}
 
 -- a text is itself
 pub bytes_eq-self : (text : List ℕ) → bytes_eq text text ≡ true

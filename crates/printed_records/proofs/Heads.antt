@@ -1,18 +1,8 @@
 -- The two lines above the windows.
-use Rattle.day_report.specs.Days.{head_text}
-use Rattle.home_types.specs.declared.modes.Mode.{Mode}
+use Rattle.printed_records.proofs.Prelude.{Eventual, Global, List, Mode, Partitioned, Scheduler, Some, Visibility, Weak, ap, codes, false, has_order, head_text, is_head, is_note, lines_of, list_all, not, prints_order, refl, sym, true, true≢false, ℕ, ◌++◌, ◌==◌, ◌∙◌, ◌∷◌, ◌≡◌}
 use Rattle.home_types.specs.declared.modes.Scheduler.TheVariants.{Fcfs, JustInTime, Timeline}
-use Rattle.home_types.specs.declared.modes.Scheduler.{Scheduler}
-use Rattle.home_types.specs.declared.modes.Visibility.TheVariants.{Eventual, Global, Partitioned, Weak}
-use Rattle.home_types.specs.declared.modes.Visibility.{Visibility}
-use Rattle.order_checker.specs.Heads.{is_head}
-use Rattle.order_checker.specs.Lines.{is_note, lines_of}
 use Rattle.printed_records.proofs.LineTexts.{lines-line}
 use Rattle.printed_records.proofs.Plain.{lacks-seen}
-use Rattle.printed_records.specs.Modes.{has_order, prints_order}
-use Rattle.std.proofs.Common.{List, Some, ap, false, not, refl, sym, true, true≢false, ℕ, ◌++◌, ◌==◌, ◌∙◌, ◌≡◌, ◌∷◌}
-use Rattle.std.specs.List.{list_all}
-use Rattle.std.specs.Prelude.{codes}
 
 -- the second line of the head, which is one that a record may have
 pub record IsHeadOf (mode : Mode) (second : List ℕ) : Type 0 where

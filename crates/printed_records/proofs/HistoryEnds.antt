@@ -1,31 +1,9 @@
 -- The ends of a window's runs, and their answers, by what the history says.
-use Rattle.command_rules.specs.Rosters.{Run, commands_of, is_run}
-use Rattle.history_book.proofs.Cited.{IsShaped, answer_by, answers_are, committed_in, end_is, put_keeps, shapes}
-use Rattle.history_book.specs.Books.{end_of}
-use Rattle.history_book.specs.Histories.{entries_of, entry, reading}
-use Rattle.history_book.specs.Readings.{OfRun, PlacedAt, Reading, is_committed, is_committing, next_of, nothing_read, put}
-use Rattle.history_book.specs.Settings.{Setting}
-use Rattle.history_book.specs.WellFormed.{IsWellFormed, along, may_follow}
-use Rattle.history_book.specs.declared.entries.End.TheVariants.{Aborted, Committed}
-use Rattle.history_book.specs.declared.entries.End.{End}
-use Rattle.history_book.specs.declared.entries.Entry.TheVariants.{Arrived, Did, Doomed, Ended, Fell, Placed, Rose, Undid}
-use Rattle.history_book.specs.declared.entries.Entry.{Entry}
-use Rattle.history_book.specs.declared.entries.Kept.{Kept}
-use Rattle.home_types.specs.declared.commands.Answer.{Answer}
-use Rattle.legal_days.proofs.Cited.{at_place}
-use Rattle.order_checker.specs.RunLines.{told_of}
+use Rattle.printed_records.proofs.Prelude.{Aborted, Answer, AnswersInOrder, AreTyped, Arrived, Bool, Committed, Did, Doomed, End, Ended, Entry, Fell, IsShaped, IsTrue, IsWellFormed, Kept, List, None, OfRun, Option, Placed, PlacedAt, Reading, Rose, Run, RunText, Setting, Some, Undid, WindowText, [], along, answer_by, answer_in, answers_are, answers_of_run, ap, arith, at_place, commands_of, committed_in, common_steps, cons_option, end_is, end_of, ends_told, entries_of, entry, enumerate_from, false, if◌then◌else◌, is_committed, is_committing, is_none, is_run, is_some, length, length-append, map, may_follow, next_of, nothing_read, numbered_answers, numbered_in, option_and_then, option_map, put, put_keeps, reading, refl, shapes, slice_get, slice_get-map, slice_get_within, subst, suc, sym, told_end, told_of, true, unwrap_or, zero, ℕ, ◌++◌, ◌+◌, ◌<◌, ◌==◌, ◌∙◌, ◌∷◌, ◌≡◌}
 use Rattle.order_checker.specs.RunLines as checked
 use Rattle.printed_records.proofs.ToldEnds.{told_at}
 use Rattle.printed_records.proofs.TypedAnswers.{all_suit, all_typed}
-use Rattle.printed_records.specs.Ends.{AnswersInOrder, answer_in, answers_of_run, ends_told, numbered_answers, numbered_in, told_end}
-use Rattle.printed_records.specs.Typed.{AreTyped}
-use Rattle.routine_reader.specs.declared.scripts.RunText.{RunText}
-use Rattle.routine_reader.specs.declared.scripts.WindowText.{WindowText}
-use Rattle.std.proofs.Common.{ap, arith, length-append, refl, subst, sym, ◌∙◌}
-use Rattle.std.proofs.lemmas.Grind.{common_steps}
-use Rattle.std.proofs.lemmas.Option.{slice_get-map, slice_get_within}
-use Rattle.std.specs.List.{cons_option, enumerate_from}
-use Rattle.std.specs.Prelude.{Bool, IsTrue, List, None, Option, Some, [], false, filter_map, if◌then◌else◌, is_none, is_some, length, map, option_and_then, option_map, slice_get, suc, true, unwrap_or, zero, ℕ, ◌++◌, ◌+◌, ◌<◌, ◌==◌, ◌∷◌, ◌≡◌}
+use Rattle.std.specs.Prelude.{filter_map}
 
 -- ---- answers
 

@@ -1,28 +1,11 @@
 -- The home line, read again.
-use Rattle.day_report.specs.Lines.{home_line, home_word, home_words}
-use Rattle.day_report.specs.Words.{value_text}
-use Rattle.home_types.specs.HomeStates.{stand_at}
-use Rattle.home_types.specs.Kinds.{has_value}
-use Rattle.home_types.specs.declared.worlds.Stand.{Stand}
-use Rattle.order_checker.specs.HomeLines.{home_told, home_words_told, next_stand, stand_by_word, stand_written, stands_told}
-use Rattle.order_checker.specs.Lines.{lines_of}
-use Rattle.order_checker.specs.Steps.{required, walk, ◌>>=◌}
-use Rattle.order_checker.specs.Words.{cut_at, is_none_word}
-use Rattle.order_checker.specs.declared.verdicts.Place.TheVariants.{Home}
+use Rattle.printed_records.proofs.Prelude.{Bool, DeviceText, Home, IsSoundDevice, List, None, Ok, Some, Stand, [], ap, append-nil, append_assoc, arith, bytes_eq, codes, common_steps, cut_at, enumerate_from, false, flat_map, has_value, home_line, home_told, home_word, home_words, home_words_told, if◌then◌else◌, is_none_word, length, length-append, lines_of, next_stand, option_and_then, option_map, plain_device, refl, required, stand_at, stand_by_word, stand_written, stands_told, subst, true, value_text, walk, ℕ, ⊤, ◌++◌, ◌+◌, ◌==◌, ◌>>=◌, ◌∙◌, ◌∷◌, ◌≡◌}
 use Rattle.printed_records.proofs.Firsts.{bytes_eq-self, cut-at, cut-none}
 use Rattle.printed_records.proofs.LineTexts.{line_with, lines-words, spaced, words-line}
 use Rattle.printed_records.proofs.Names.{name-plain}
 use Rattle.printed_records.proofs.Plain.{AreWords, IsPlain, IsWord, lacks-plain, word-append, word-plain, word-seen}
 use Rattle.printed_records.proofs.WordReads.{AreRead, read-length, reads}
 use Rattle.printed_records.proofs.Values.{value-read, value-text}
-use Rattle.routine_reader.specs.Scripts.{plain_device}
-use Rattle.routine_reader.specs.Sound.{IsSoundDevice}
-use Rattle.routine_reader.specs.declared.scripts.DeviceText.{DeviceText}
-use Rattle.std.proofs.Common.{Bool, List, None, Ok, Some, [], ap, append-nil, append_assoc, arith, false, length, length-append, refl, subst, true, ℕ, ◌+◌, ◌++◌, ◌==◌, ◌∙◌, ◌≡◌, ◌∷◌}
-use Rattle.std.proofs.lemmas.Grind.{common_steps}
-use Rattle.std.specs.List.{enumerate_from, flat_map}
-use Rattle.std.specs.Prelude.{codes, if◌then◌else◌, option_and_then, option_map, ⊤}
-use Rattle.std.specs.Str.{bytes_eq}
 
 -- the word of a device without the space before it
 abbrev pub mark : Stand → List ℕ

@@ -1,22 +1,7 @@
 -- The events of a line are of the home's devices.
-use Rattle.command_rules.specs.Items.{is_ran}
-use Rattle.history_book.proofs.Cited.{any_insert, any_put_before, split_any}
-use Rattle.history_book.specs.Histories.{entry, reading}
-use Rattle.history_book.specs.Lines.{without}
+use Rattle.printed_records.proofs.Prelude.{Aborted, Arrived, Back, Bool, Committed, Did, Doomed, Ended, Entry, Failed, Fell, IsTrue, IsWellFormed, Item, List, Placed, Ran, Reading, Rose, Setting, Undid, [], along, any_insert, any_put_before, ap, arith, common_steps, cond, entry, false, fold, is_device, is_ran, length, list_any, may_follow, not, nothing_read, reading, refl, split_any, true, without, ℕ, ◌++◌, ◌+◌, ◌||◌, ◌∙◌, ◌∷◌, ◌≡◌}
 use Rattle.history_book.specs.Gaps.{split_of}
-use Rattle.history_book.specs.Readings.{Reading, nothing_read}
-use Rattle.history_book.specs.Settings.{Setting, is_device}
-use Rattle.history_book.specs.WellFormed.{IsWellFormed, along, may_follow}
-use Rattle.history_book.specs.declared.entries.End.TheVariants.{Aborted, Committed}
-use Rattle.history_book.specs.declared.entries.Entry.TheVariants.{Arrived, Did, Doomed, Ended, Fell, Placed, Rose, Undid}
-use Rattle.history_book.specs.declared.entries.Entry.{Entry}
-use Rattle.home_types.specs.declared.items.Item.TheVariants.{Back, Failed, Ran}
-use Rattle.home_types.specs.declared.items.Item.{Item}
 use Rattle.printed_records.proofs.StandingItems.{IsHomed}
-use Rattle.std.proofs.Common.{ap, arith, refl, ◌∙◌}
-use Rattle.std.proofs.lemmas.Grind.{common_steps}
-use Rattle.std.specs.List.{list_any}
-use Rattle.std.specs.Prelude.{Bool, IsTrue, List, [], cond, false, fold, length, not, true, ℕ, ◌++◌, ◌+◌, ◌||◌, ◌∷◌, ◌≡◌}
 
 -- the item is an event of a device that the home does not have
 abbrev pub is_astray : Setting → Item → Bool

@@ -1,35 +1,10 @@
 -- The windows of a legal day fit, and its record agrees.
-use Rattle.command_rules.specs.Rosters.{Run}
-use Rattle.day_report.specs.Days.{day_text}
-use Rattle.history_book.specs.declared.records.WindowRecord.{WindowRecord}
-use Rattle.home_types.specs.declared.kinds.Kind.{Kind}
-use Rattle.home_types.specs.declared.modes.Mode.{Mode}
-use Rattle.home_types.specs.declared.modes.Scheduler.{Scheduler}
-use Rattle.home_types.specs.declared.modes.Visibility.TheVariants.{Eventual, Global, Partitioned, Weak}
-use Rattle.home_types.specs.declared.modes.Visibility.{Visibility}
-use Rattle.home_types.specs.declared.worlds.Stand.{Stand}
-use Rattle.legal_days.proofs.Cited.{at_place}
+use Rattle.printed_records.proofs.Prelude.{Agrees, Bool, CausesAreSmall, DayFits, Eventual, Global, HaveValues, IsLegalWindow, IsSeriallyLegal, IsSound, IsSoundWindow, Kind, List, Mode, Partitioned, Run, Scheduler, Script, Some, Stand, TimesAreSmall, Visibility, Weak, WindowFits, WindowRecord, WindowText, [], ap, arith, at_place, day_text, has_order, home_before, kinds_of, length, length-map, map, option_map, plain_routine, plain_script, plain_window, prints_order, refl, run_of_text, script_runs, slice_get, slice_get_within, subst, subst₂, suc, sym, true, unwrap_or, verdict_of, window_sound, zero, ℕ, ◌∙◌, ◌≡◌, ◌≤◌}
 use Rattle.legal_days.specs.LegalDays.{RecordsAreLegal, state_after}
-use Rattle.legal_days.specs.LegalWindows.{IsLegalWindow, IsSeriallyLegal}
-use Rattle.order_checker.proofs.Cited.{window_sound}
-use Rattle.order_checker.specs.Records.{verdict_of}
-use Rattle.order_checker.specs.declared.verdicts.Verdict.TheVariants.{Agrees}
 use Rattle.printed_records.proofs.DayTexts.{day-agrees}
 use Rattle.printed_records.proofs.EndCounts.{all-ended, ends-committed}
 use Rattle.printed_records.proofs.LegalFits.{all_fit, items_fit, run_fits, serial_fits, values_fit, window_setting}
 use Rattle.printed_records.proofs.ValuesKept.{start-values}
-use Rattle.printed_records.specs.FitWindows.{DayFits, HaveValues, WindowFits, home_before}
-use Rattle.printed_records.specs.Modes.{has_order, prints_order}
-use Rattle.printed_records.specs.SmallTimes.{CausesAreSmall, TimesAreSmall}
-use Rattle.routine_reader.specs.Rosters.{kinds_of, run_of_text, script_runs}
-use Rattle.routine_reader.specs.Scripts.{plain_routine, plain_script, plain_window}
-use Rattle.routine_reader.specs.Sound.{IsSound, IsSoundWindow}
-use Rattle.routine_reader.specs.declared.scripts.Script.{Script}
-use Rattle.routine_reader.specs.declared.scripts.WindowText.{WindowText}
-use Rattle.std.proofs.Common.{ap, arith, refl, subst, subst₂, sym, ◌∙◌}
-use Rattle.std.proofs.lemmas.List.{length-map}
-use Rattle.std.proofs.lemmas.Option.{slice_get_within}
-use Rattle.std.specs.Prelude.{Bool, List, Some, [], length, map, option_map, slice_get, suc, true, unwrap_or, zero, ℕ, ◌≡◌, ◌≤◌}
 
 -- a window that fits, out of a legal one
 pub window_fits : (script : Script) (mode : Mode) (home : List Stand) (window : WindowText) (closed : WindowRecord)

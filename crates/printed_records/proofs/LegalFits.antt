@@ -1,27 +1,6 @@
 -- A legal window fits: what is printed of it is read again as what it is.
-use Rattle.command_rules.specs.Rosters.{follows}
-use Rattle.history_book.proofs.Cited.{end_is}
-use Rattle.history_book.specs.Books.{end_of}
-use Rattle.history_book.specs.Histories.{entries_of, entry, reading}
-use Rattle.history_book.specs.Readings.{Reading, is_committed, is_committing, nothing_read}
-use Rattle.history_book.specs.Settings.{Setting}
-use Rattle.history_book.specs.WellFormed.{along}
-use Rattle.history_book.specs.declared.entries.Cause.TheVariants.{DownAtEnd, Lost, MustDown, Refuted, Revoked}
-use Rattle.history_book.specs.declared.entries.Cause.{Cause}
-use Rattle.history_book.specs.declared.entries.End.TheVariants.{Aborted, Committed}
-use Rattle.history_book.specs.declared.entries.End.{End}
-use Rattle.history_book.specs.declared.entries.Entry.TheVariants.{Arrived, Did, Doomed, Ended, Fell, Placed, Rose, Undid}
-use Rattle.history_book.specs.declared.entries.Entry.{Entry}
-use Rattle.history_book.specs.declared.entries.Kept.{Kept}
-use Rattle.history_book.specs.declared.records.WindowRecord.{WindowRecord}
-use Rattle.home_types.specs.declared.commands.Answer.{Answer}
-use Rattle.home_types.specs.declared.items.Item.TheVariants.{Back, Failed, Ran}
-use Rattle.home_types.specs.declared.items.Item.{Item}
-use Rattle.home_types.specs.declared.modes.Mode.{Mode}
-use Rattle.home_types.specs.declared.worlds.Stand.{Stand}
+use Rattle.printed_records.proofs.Prelude.{Aborted, AllStand, Answer, Arrived, Back, Bool, Cause, CausesAreSmall, Committed, DeviceText, Did, Doomed, DownAtEnd, End, Ended, Entry, Failed, Fell, HaveValues, IsCauseFor, IsSeriallyLegal, IsSmall, IsSound, IsSoundWindow, IsTrue, Item, ItemsMayStand, Kept, List, Lost, Mode, MustDown, None, Ok, Option, Placed, Ran, Reading, Refuted, Revoked, Rose, RunFits, Script, Setting, Some, Stand, Undid, WindowRecord, WindowText, [], along, ap, append_assoc, arith, common_steps, end_is, end_of, ends_told, entries_of, entry, false, follows, home_behind, if◌then◌else◌, is_committed, is_committing, is_none, is_some, kinds_of, length, length-map, list_all, map, nothing_read, option_and_then, option_map, order_setting, plain_item, plain_routine, plain_script, plain_window, range_with_len, reading, refl, run_of_text, slice_get, subst, subst₂, suc, sym, true, unwrap_or, zero, ℕ, ◌&&◌, ◌++◌, ◌+◌, ◌<◌, ◌==◌, ◌∙◌, ◌∷◌, ◌≡◌, ◌≢◌, ◌≤◌}
 use Rattle.legal_days.specs.JustifiedAborts.{abort_is_justified}
-use Rattle.legal_days.specs.LegalWindows.{IsSeriallyLegal}
-use Rattle.order_checker.specs.Answers.{home_behind}
 use Rattle.order_checker.specs.RunLines as checked
 use Rattle.printed_records.proofs.CausesKept.{NamesWell, all_name_well, found_shown}
 use Rattle.printed_records.proofs.HistoryEnds.{committed_typed, in_turn, same_committed, told_whole}
@@ -30,22 +9,6 @@ use Rattle.printed_records.proofs.SerialAnswers.{AreTold, behind_is}
 use Rattle.printed_records.proofs.StandingItems.{IsHomed, IsOrderOf, all_stand, items_stand, ran_committed}
 use Rattle.printed_records.proofs.ToldEnds.{told_at}
 use Rattle.printed_records.proofs.ValuesKept.{items-values, script-filled, values-length, window-suits}
-use Rattle.printed_records.specs.Ends.{ends_told}
-use Rattle.printed_records.specs.FitWindows.{HaveValues, order_setting}
-use Rattle.printed_records.specs.Fits.{AllStand, ItemsMayStand, RunFits, plain_item}
-use Rattle.printed_records.specs.SmallTimes.{CausesAreSmall, IsSmall}
-use Rattle.printed_records.specs.Typed.{IsCauseFor}
-use Rattle.routine_reader.specs.Rosters.{kinds_of, run_of_text}
-use Rattle.routine_reader.specs.Scripts.{plain_routine, plain_script, plain_window}
-use Rattle.routine_reader.specs.Sound.{IsSound, IsSoundWindow}
-use Rattle.routine_reader.specs.declared.scripts.DeviceText.{DeviceText}
-use Rattle.routine_reader.specs.declared.scripts.Script.{Script}
-use Rattle.routine_reader.specs.declared.scripts.WindowText.{WindowText}
-use Rattle.std.proofs.Common.{ap, append_assoc, arith, refl, subst, subst₂, sym, ◌∙◌}
-use Rattle.std.proofs.lemmas.Grind.{common_steps}
-use Rattle.std.proofs.lemmas.List.{length-map}
-use Rattle.std.specs.List.{list_all, range_with_len}
-use Rattle.std.specs.Prelude.{Bool, IsTrue, List, None, Ok, Option, Some, [], false, if◌then◌else◌, is_none, is_some, length, map, option_and_then, option_map, slice_get, suc, true, unwrap_or, zero, ℕ, ◌&&◌, ◌++◌, ◌+◌, ◌<◌, ◌==◌, ◌∷◌, ◌≡◌, ◌≢◌, ◌≤◌}
 
 -- what is fixed in a window of the script
 abbrev pub window_setting : Script → Mode → List Stand → WindowText → Setting

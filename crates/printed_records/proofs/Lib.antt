@@ -1,6 +1,7 @@
 mod Plain
 mod LineTexts
 mod Numerals
+mod Prelude
 mod ToldEnds
 mod Firsts
 mod Names

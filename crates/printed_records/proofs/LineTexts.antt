@@ -1,12 +1,7 @@
 -- Lines of words, each with a space before it but the first, behind each other.
-use Rattle.order_checker.proofs.Cited.{lines-cons}
-use Rattle.order_checker.specs.Lines.{is_note, lines_of, lines_of_pieces, pieces_of}
-use Rattle.order_checker.specs.Words.{words_of}
+use Rattle.printed_records.proofs.Prelude.{All-append, All-cons, List, Some, [], ap, append-nil, append_assoc, arith, false, if◌then◌else◌, is_note, lines-cons, lines_of, lines_of_pieces, pieces_of, refl, sym, true, words_of, ℕ, ◌++◌, ◌==◌, ◌∙◌, ◌∷◌, ◌≡◌}
 use Rattle.printed_records.proofs.Plain.{AreWords, IsWord, Lacks}
-use Rattle.std.proofs.Common.{List, Some, [], ap, append-nil, append_assoc, arith, false, refl, sym, true, ℕ, ◌++◌, ◌==◌, ◌∙◌, ◌≡◌, ◌∷◌}
-use Rattle.std.proofs.lemmas.List.Elements.{All-append, All-cons}
 use Rattle.std.proofs.lemmas.List.Splits.{length-slice_split, slice_split_at, slice_split_none}
-use Rattle.std.specs.Prelude.{if◌then◌else◌}
 
 -- words with a space before each, in front of a text
 abbrev pub spaced : List (List ℕ) → List ℕ → List ℕ

@@ -1,21 +1,8 @@
 -- Names of a sound script: each is a word, and names its own device.
-use Rattle.order_checker.proofs.Cited.{seen_at}
-use Rattle.order_checker.specs.Values.{device_named}
+use Rattle.printed_records.proofs.Prelude.{DeviceText, IsName, IsSound, IsSoundDevice, IsSoundRoutine, List, PlainDevice, RoutineText, Script, Some, [], ap, arith, bytes_eq, common_steps, device_named, is_name_byte, list_all, map, option_map, plain_device, plain_routine, plain_script, position, refl, seen_at, slice_get, slice_get-map, starts_with_letter, sym, true, ℕ, ◌∙◌, ◌∷◌, ◌≡◌}
 use Rattle.printed_records.proofs.Firsts.{bytes_eq-self, position-at}
 use Rattle.printed_records.proofs.Plain.{IsPlain, IsWord, is_plain, word-plain}
 use Rattle.routine_reader.proofs.Cited.{position-map}
-use Rattle.routine_reader.specs.Names.{is_name_byte, starts_with_letter}
-use Rattle.routine_reader.specs.Scripts.{PlainDevice, plain_device, plain_routine, plain_script}
-use Rattle.routine_reader.specs.Sound.{IsName, IsSound, IsSoundDevice, IsSoundRoutine}
-use Rattle.routine_reader.specs.declared.scripts.DeviceText.{DeviceText}
-use Rattle.routine_reader.specs.declared.scripts.RoutineText.{RoutineText}
-use Rattle.routine_reader.specs.declared.scripts.Script.{Script}
-use Rattle.std.proofs.Common.{List, Some, [], ap, arith, map, option_map, refl, sym, true, ℕ, ◌∙◌, ◌≡◌, ◌∷◌}
-use Rattle.std.proofs.lemmas.Grind.{common_steps}
-use Rattle.std.proofs.lemmas.Option.{slice_get-map}
-use Rattle.std.specs.List.{list_all, position}
-use Rattle.std.specs.Prelude.{slice_get}
-use Rattle.std.specs.Str.{bytes_eq}
 
 name-byte : (b : ℕ) → is_name_byte b ≡ true → is_plain b ≡ true
 name-byte b is = grind (arith, common_steps)

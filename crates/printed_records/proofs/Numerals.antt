@@ -1,16 +1,6 @@
 -- Numbers as they are printed, read again.
-use Rattle.order_checker.proofs.Cited.{own}
-use Rattle.order_checker.specs.Words.{is_number, is_numeral, number_of}
+use Rattle.printed_records.proofs.Prelude.{List, Some, [], ap, arith, common_steps, decimal, decimal_digit, decimal_nonempty, digits_decimal, digits_value, digits_value-decimal, false, first_decimal, is_ascii_digit, is_number, is_numeral, length, list_all, nat_lt, not, number_of, option_map_or, own, refl, slice_index, suc, true, zero, ℕ, ◌<◌, ◌==◌, ◌^◌, ◌||◌, ◌∙◌, ◌∷◌, ◌≡◌}
 use Rattle.printed_records.proofs.Plain.{IsPlain, IsWord, word-plain}
-use Rattle.std.proofs.Common.{List, Some, [], ap, arith, false, length, nat_lt, not, refl, suc, true, zero, ℕ, ◌<◌, ◌==◌, ◌^◌, ◌||◌, ◌≡◌, ◌∙◌, ◌∷◌}
-use Rattle.std.proofs.lemmas.Fmt.{decimal_digit, decimal_nonempty, digits_decimal, digits_value-decimal, first_decimal}
-use Rattle.std.proofs.lemmas.Grind.{common_steps}
-use Rattle.std.specs.Char.{is_ascii_digit}
-use Rattle.std.specs.Fmt.{decimal}
-use Rattle.std.specs.List.{list_all}
-use Rattle.std.specs.Option.{option_map_or}
-use Rattle.std.specs.Prelude.{slice_index}
-use Rattle.std.specs.Str.Parse.{digits_value}
 
 pub decimal-digits : (n : ℕ) → n < 2 ^ 64 → list_all is_ascii_digit (decimal n) ≡ true
 decimal-digits n small = digits_decimal own n small

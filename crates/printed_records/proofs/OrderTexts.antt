@@ -1,18 +1,5 @@
 -- The order line, read again.
-use Rattle.day_report.specs.Lines.{item_word, item_words, order_line}
-use Rattle.day_report.specs.Words.{device_name}
-use Rattle.home_types.specs.declared.commands.Answer.{Answer}
-use Rattle.home_types.specs.declared.items.Item.TheVariants.{Back, Failed, Ran}
-use Rattle.home_types.specs.declared.items.Item.{Item}
-use Rattle.home_types.specs.declared.modes.Visibility.TheVariants.{Eventual, Global, Partitioned, Weak}
-use Rattle.home_types.specs.declared.modes.Visibility.{Visibility}
-use Rattle.order_checker.specs.Lines.{lines_of}
-use Rattle.order_checker.specs.OrderLines.{OrderSetting, event_device, failure_item, is_up_behind, item_of, items_told, may_run, name_in, next_item, next_stands, order_line_told, order_place, order_told, order_words_told, restart_item}
-use Rattle.order_checker.specs.RunLines.{is_told_committed}
-use Rattle.order_checker.specs.Steps.{required, walk, ◌>>=◌}
-use Rattle.order_checker.specs.Values.{device_named}
-use Rattle.order_checker.specs.Words.{cut_at, number_of}
-use Rattle.order_checker.specs.declared.verdicts.Place.TheVariants.{Order}
+use Rattle.printed_records.proofs.Prelude.{AllStand, Answer, Back, DeviceText, Eventual, Failed, Global, IsSound, Item, ItemsMayStand, List, MayStand, None, Ok, Option, Order, OrderSetting, Partitioned, Ran, Script, Some, Visibility, Weak, [], ap, append-nil, append_assoc, arith, bytes_eq, codes, common_steps, cut_at, decimal, device_name, device_named, digits_value, event_device, failure_item, false, flat_map, if◌then◌else◌, is_ascii_digit, is_some, is_told_committed, is_up_behind, item_of, item_word, item_words, items_told, length, lines_of, list_all, map, may_run, name_in, nat_lt, next_item, next_stands, not, number_of, ok_or, option_and_then, option_or, order_line, order_line_told, order_place, order_told, order_words_told, plain_item, plain_script, refl, required, restart_item, slice_get, subst, suc, sym, true, true≢false, walk, zero, ℕ, ◌&&◌, ◌++◌, ◌+◌, ◌<◌, ◌==◌, ◌>>=◌, ◌^◌, ◌||◌, ◌∙◌, ◌∷◌, ◌≡◌, ◌≢◌, ◌≤◌}
 use Rattle.printed_records.proofs.Firsts.{bytes_eq-self, cut-at}
 use Rattle.printed_records.proofs.LineTexts.{line_with, lines-words, spaced, words-line}
 use Rattle.printed_records.proofs.Names.{device-named, name-plain, name-word, sound-device}
@@ -21,20 +8,6 @@ use Rattle.printed_records.proofs.Plain.{AreWords, IsWord, lacks-plain, lacks-se
 use Rattle.printed_records.proofs.Runs.{device-name, device-there}
 use Rattle.printed_records.proofs.ToldEnds.{told_at}
 use Rattle.printed_records.proofs.Values.{no-bytes_eq}
-use Rattle.printed_records.specs.Fits.{AllStand, ItemsMayStand, MayStand, plain_item}
-use Rattle.routine_reader.specs.Scripts.{plain_script}
-use Rattle.routine_reader.specs.Sound.{IsSound}
-use Rattle.routine_reader.specs.declared.scripts.DeviceText.{DeviceText}
-use Rattle.routine_reader.specs.declared.scripts.Script.{Script}
-use Rattle.std.proofs.Common.{List, None, Ok, Option, Some, [], ap, append-nil, append_assoc, arith, false, length, map, nat_lt, not, refl, subst, suc, sym, true, true≢false, zero, ℕ, ◌&&◌, ◌+◌, ◌++◌, ◌<◌, ◌==◌, ◌≤◌, ◌^◌, ◌∙◌, ◌≡◌, ◌≢◌, ◌∷◌, ◌||◌}
-use Rattle.std.proofs.lemmas.Grind.{common_steps}
-use Rattle.std.specs.Char.{is_ascii_digit}
-use Rattle.std.specs.Fmt.{decimal}
-use Rattle.std.specs.List.{flat_map, list_all}
-use Rattle.std.specs.Option.{option_or}
-use Rattle.std.specs.Prelude.{codes, if◌then◌else◌, is_some, ok_or, option_and_then, slice_get}
-use Rattle.std.specs.Str.Parse.{digits_value}
-use Rattle.std.specs.Str.{bytes_eq}
 
 -- an item without the space before it
 abbrev pub item_text : Script → Item → List ℕ

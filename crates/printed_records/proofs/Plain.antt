@@ -1,11 +1,5 @@
 -- Words that stand in a line: no byte of them ends a word or a line.
-use Rattle.std.proofs.Common.{Bool, List, [], arith, false, get_or, not, refl, true, ℕ, ◌&&◌, ◌++◌, ◌==◌, ◌≡◌, ◌∷◌}
-use Rattle.std.proofs.lemmas.Grind.{common_steps}
-use Rattle.std.proofs.lemmas.List.Elements.{All-append}
-use Rattle.std.proofs.lemmas.List.Folds.{list_all-append}
-use Rattle.std.proofs.lemmas.List.Sums.{AllPass-from_list_all}
-use Rattle.std.specs.List.{list_all}
-use Rattle.std.specs.Prelude.{All, nat_le, ⊤}
+use Rattle.printed_records.proofs.Prelude.{All, All-append, AllPass-from_list_all, Bool, List, [], arith, common_steps, false, get_or, list_all, list_all-append, nat_le, not, refl, true, ℕ, ⊤, ◌&&◌, ◌++◌, ◌==◌, ◌∷◌, ◌≡◌}
 
 -- the byte does not stand in the text
 abbrev pub Lacks : ℕ → List ℕ → Type 0

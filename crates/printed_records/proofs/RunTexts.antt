@@ -1,15 +1,6 @@
 -- The line of a run, read again.
-use Rattle.command_rules.specs.Rosters.{run_no}
-use Rattle.day_report.specs.Lines.{end_text, line_of_run}
-use Rattle.history_book.specs.Books.{end_of}
-use Rattle.history_book.specs.declared.entries.End.TheVariants.{Aborted, Committed}
-use Rattle.history_book.specs.declared.entries.End.{End}
-use Rattle.history_book.specs.declared.entries.Kept.{Kept}
-use Rattle.order_checker.specs.Lines.{lines_of}
-use Rattle.order_checker.specs.RunLines.{answers_told, end_told, run_told, run_words_told}
-use Rattle.order_checker.specs.Steps.{required, ◌>>=◌}
+use Rattle.printed_records.proofs.Prelude.{Aborted, AreTyped, Committed, End, EndFits, IsSound, Kept, List, None, Ok, RoutineText, RunFits, RunText, Script, Some, WindowText, [], answers_of_run, answers_told, ap, append_assoc, ap₂, bytes_eq, codes, decimal, end_of, end_text, end_told, enumerate_from, is_number, kinds_of, length, line_of_run, lines_of, map, numbered_answers, plain_script, refl, required, routine_commands, run_no, run_of_text, run_told, run_words_told, subst, sym, told_end, ℕ, ◌&&◌, ◌++◌, ◌<◌, ◌>>=◌, ◌^◌, ◌∙◌, ◌∷◌, ◌≡◌}
 use Rattle.order_checker.specs.Windows as checked
-use Rattle.order_checker.specs.Words.{is_number}
 use Rattle.order_checker.specs.declared.verdicts.Place.TheVariants as place
 use Rattle.printed_records.proofs.AnswerTexts.{answers-all, answers-spaced, answers-told, numbered_text}
 use Rattle.printed_records.proofs.CauseTexts.{cause-printed, cause-spaced, cause_words}
@@ -19,21 +10,6 @@ use Rattle.printed_records.proofs.Names.{name-word, sound-routine}
 use Rattle.printed_records.proofs.Numerals.{decimal-word, is_number-decimal}
 use Rattle.printed_records.proofs.Plain.{AreWords, IsWord, word-seen}
 use Rattle.printed_records.proofs.Runs.{IsRunOf, name-checked, name-printed, routine-commands, run-commands}
-use Rattle.printed_records.specs.Ends.{answers_of_run, numbered_answers, told_end}
-use Rattle.printed_records.specs.Fits.{EndFits, RunFits}
-use Rattle.printed_records.specs.Typed.{AreTyped}
-use Rattle.routine_reader.specs.Rosters.{kinds_of, routine_commands, run_of_text}
-use Rattle.routine_reader.specs.Scripts.{plain_script}
-use Rattle.routine_reader.specs.Sound.{IsSound}
-use Rattle.routine_reader.specs.declared.scripts.RoutineText.{RoutineText}
-use Rattle.routine_reader.specs.declared.scripts.RunText.{RunText}
-use Rattle.routine_reader.specs.declared.scripts.Script.{Script}
-use Rattle.routine_reader.specs.declared.scripts.WindowText.{WindowText}
-use Rattle.std.proofs.Common.{List, None, Ok, Some, [], ap, ap₂, append_assoc, length, map, refl, subst, sym, ℕ, ◌&&◌, ◌++◌, ◌<◌, ◌^◌, ◌∙◌, ◌≡◌, ◌∷◌}
-use Rattle.std.specs.Fmt.{decimal}
-use Rattle.std.specs.List.{enumerate_from}
-use Rattle.std.specs.Prelude.{codes}
-use Rattle.std.specs.Str.{bytes_eq}
 
 -- the words of a run's end
 abbrev pub end_words : Script → WindowText → List Kept → ℕ → End → List (List ℕ)

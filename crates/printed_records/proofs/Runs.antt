@@ -1,25 +1,8 @@
 -- A run of a window of a sound script: its routine, its commands and their devices.
-use Rattle.command_rules.specs.Rosters.{Run, commands_of}
+use Rattle.printed_records.proofs.Prelude.{All-get_or, Command, DeviceText, IsSound, IsSoundCommand, List, None, Option, RoutineText, Run, RunText, Script, Some, States, WindowText, [], ap, arith, commands_of, device_name, device_of, get_or, get_or_from_slice_get, kind_at, kinds_of, length, length-map, map, option_and_then, option_map, plain_device, plain_script, refl, routine_commands, routine_of, run_at, run_of_text, slice_get, slice_get-map, slice_get_within, states_of, subst, suc, unwrap_or, zero, ℕ, ◌<◌, ◌∙◌, ◌∷◌, ◌≡◌}
 use Rattle.day_report.specs.Words as printed
-use Rattle.day_report.specs.Words.{device_name, device_of, routine_of, run_at, states_of}
-use Rattle.home_types.specs.Kinds.{kind_at}
-use Rattle.home_types.specs.declared.commands.Command.{Command}
-use Rattle.home_types.specs.declared.kinds.Kind.TheVariants.{States}
 use Rattle.order_checker.specs.Windows as checked
 use Rattle.printed_records.proofs.Names.{sound-routine}
-use Rattle.routine_reader.specs.Rosters.{kinds_of, routine_commands, run_of_text}
-use Rattle.routine_reader.specs.Scripts.{plain_device, plain_script}
-use Rattle.routine_reader.specs.Sound.{IsSound, IsSoundCommand}
-use Rattle.routine_reader.specs.declared.scripts.DeviceText.{DeviceText}
-use Rattle.routine_reader.specs.declared.scripts.RoutineText.{RoutineText}
-use Rattle.routine_reader.specs.declared.scripts.RunText.{RunText}
-use Rattle.routine_reader.specs.declared.scripts.Script.{Script}
-use Rattle.routine_reader.specs.declared.scripts.WindowText.{WindowText}
-use Rattle.std.proofs.Common.{List, None, Option, Some, [], ap, arith, get_or, length, map, option_map, refl, subst, suc, unwrap_or, zero, ℕ, ◌<◌, ◌∙◌, ◌≡◌, ◌∷◌}
-use Rattle.std.proofs.lemmas.List.Elements.{All-get_or}
-use Rattle.std.proofs.lemmas.List.{length-map}
-use Rattle.std.proofs.lemmas.Option.{get_or_from_slice_get, slice_get-map, slice_get_within}
-use Rattle.std.specs.Prelude.{option_and_then, slice_get}
 
 -- the run of this number, from 1, and its routine
 pub record IsRunOf (script : Script) (window : WindowText) (r : ℕ) (run : RunText) (routine : RoutineText) : Type 0 where

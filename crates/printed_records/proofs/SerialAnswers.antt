@@ -1,23 +1,6 @@
 -- The serial execution of an order, its answers as they are printed, and the numbers of its events.
-use Rattle.command_rules.specs.Rosters.{Run, commands_of}
-use Rattle.command_rules.specs.Serial.{SerialRun, Served, serial_execution, serve}
-use Rattle.history_book.specs.Histories.{answers_in}
-use Rattle.history_book.specs.Readings.{Reading}
-use Rattle.home_types.specs.Commands.{Execution, execute, fails}
-use Rattle.home_types.specs.declared.commands.Answer.TheVariants.{Down, Fine, Found, Skipped}
-use Rattle.home_types.specs.declared.commands.Answer.{Answer}
-use Rattle.home_types.specs.declared.commands.Command.{Command}
-use Rattle.home_types.specs.declared.items.Item.TheVariants.{Back, Failed, Ran}
-use Rattle.home_types.specs.declared.items.Item.{Item}
-use Rattle.home_types.specs.declared.kinds.Kind.{Kind}
-use Rattle.home_types.specs.declared.worlds.Stand.{Stand}
-use Rattle.order_checker.specs.Answers.{first_found, first_wrong, home_behind, is_same, wrong_of}
-use Rattle.order_checker.specs.RunLines.{told_of}
-use Rattle.printed_records.specs.Fits.{plain_item}
+use Rattle.printed_records.proofs.Prelude.{Answer, Back, Bool, Command, Down, Execution, Failed, Fine, Found, Item, Kind, List, None, Ok, Option, Ran, Reading, Run, SerialRun, Served, Skipped, Some, Stand, [], answers_in, ap, append-nil, append_assoc, arith, commands_of, common_steps, execute, fails, false, first_found, first_wrong, fold, home_behind, is_same, map, not, plain_item, refl, serial_execution, serve, subst, sym, told_of, true, wrong_of, ⊤, ◌&&◌, ◌++◌, ◌∙◌, ◌∷◌, ◌≡◌}
 use Rattle.serial_meaning.proofs.Cited.{serve_stays}
-use Rattle.std.proofs.Common.{ap, append-nil, append_assoc, arith, refl, subst, sym, ◌∙◌}
-use Rattle.std.proofs.lemmas.Grind.{common_steps}
-use Rattle.std.specs.Prelude.{Bool, List, None, Ok, Option, Some, [], false, fold, map, not, true, ⊤, ◌&&◌, ◌++◌, ◌∷◌, ◌≡◌}
 
 -- ---- the numbers of events
 

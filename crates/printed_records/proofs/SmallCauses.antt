@@ -1,21 +1,6 @@
 -- The causes of aborted runs have small times where the entries have.
-use Rattle.history_book.specs.Books.{end_in, end_of}
-use Rattle.history_book.specs.declared.entries.Cause.TheVariants.{DownAtEnd, Lost, MustDown, Refuted, Revoked}
-use Rattle.history_book.specs.declared.entries.Cause.{Cause}
-use Rattle.history_book.specs.declared.entries.End.TheVariants.{Aborted, Committed}
-use Rattle.history_book.specs.declared.entries.End.{End}
-use Rattle.history_book.specs.declared.entries.Entry.TheVariants.{Arrived, Did, Doomed, Ended, Fell, Placed, Rose, Undid}
-use Rattle.history_book.specs.declared.entries.Entry.{Entry}
-use Rattle.history_book.specs.declared.entries.Kept.{Kept}
-use Rattle.history_book.specs.declared.records.WindowRecord.{WindowRecord}
-use Rattle.home_types.specs.declared.numbers.RunNo.{RunNo}
+use Rattle.printed_records.proofs.Prelude.{Aborted, Arrived, Bool, Cause, CausesAreSmall, Committed, Did, Doomed, DownAtEnd, End, Ended, Entry, Fell, IsSmall, Kept, List, Lost, MustDown, None, Option, Placed, Refuted, Revoked, Rose, RunNo, Some, TimesAreSmall, Undid, WindowRecord, [], are_small, arith, common_steps, end_in, end_of, false, if◌then◌else◌, is_small, list_all, option_or, refl, subst, suc, true, zero, ℕ, ◌==◌, ◌∙◌, ◌∷◌, ◌≡◌}
 use Rattle.printed_records.proofs.CausesKept.{aborted-same}
-use Rattle.printed_records.specs.SmallTimes.{CausesAreSmall, IsSmall, TimesAreSmall, are_small, is_small}
-use Rattle.std.proofs.Common.{arith, refl, subst, ◌∙◌}
-use Rattle.std.proofs.lemmas.Grind.{common_steps}
-use Rattle.std.specs.List.{list_all}
-use Rattle.std.specs.Option.{option_or}
-use Rattle.std.specs.Prelude.{Bool, List, None, Option, Some, [], false, if◌then◌else◌, suc, true, zero, ℕ, ◌==◌, ◌∷◌, ◌≡◌}
 
 cause_small : (r : RunNo) (cause : Cause) → is_small (Ended r (Aborted cause)) ≡ true → IsSmall cause
 cause_small r (MustDown c) small = tt

@@ -1,35 +1,8 @@
 -- Each item of an order may stand behind those before it.
-use Rattle.command_rules.specs.Items.{is_ran}
-use Rattle.command_rules.specs.Rosters.{Run, commands_of, followed_by, follows}
-use Rattle.command_rules.specs.Serial.{SerialRun, serve}
-use Rattle.history_book.specs.Lines.{behind}
-use Rattle.history_book.proofs.Cited.{count_insert}
-use Rattle.home_types.specs.Commands.{Execution, command_effect, done_effect, execute, holds}
-use Rattle.home_types.specs.declared.commands.Answer.TheVariants.{Skipped}
-use Rattle.home_types.specs.declared.commands.Guard.{Guard}
-use Rattle.home_types.specs.HomeStates.{nowhere, stand_at, with_up}
-use Rattle.home_types.specs.Kinds.{kind_at}
-use Rattle.home_types.specs.declared.commands.Answer.{Answer}
-use Rattle.home_types.specs.declared.commands.Command.{Command}
-use Rattle.home_types.specs.declared.commands.Job.TheVariants.{Check, Load, Set, Store}
-use Rattle.home_types.specs.declared.commands.Job.{Job}
-use Rattle.home_types.specs.declared.items.Item.TheVariants.{Back, Failed, Ran}
-use Rattle.home_types.specs.declared.items.Item.{Item}
-use Rattle.home_types.specs.declared.kinds.Kind.{Kind}
+use Rattle.printed_records.proofs.Prelude.{AllStand, Answer, Back, Bool, Check, Command, Execution, Failed, Guard, IsTrue, Item, ItemsMayStand, Job, Kind, List, Load, MayStand, None, Option, OrderSetting, Ran, Run, RunNo, SerialRun, Set, Skipped, Some, Stand, Store, [], ap, append_assoc, arith, behind, command_effect, commands_of, common_steps, cond, count_insert, done_effect, execute, false, fold, followed_by, follows, holds, home_with_event, if◌then◌else◌, is_none, is_ran, is_told_committed, is_up_behind, kind_at, length, list_any, list_any-append, map, may_run, not, nowhere, option_map_or, plain_item, refl, serve, slice_get, slice_set, stand_at, subst, suc, sum_by-cons, sym, true, with_up, zero, ℕ, ⊤, ◌&&◌, ◌++◌, ◌+◌, ◌<◌, ◌==◌, ◌||◌, ◌∙◌, ◌∷◌, ◌≡◌}
 use Rattle.home_types.specs.declared.numbers.DeviceNo.{DeviceNo}
-use Rattle.home_types.specs.declared.numbers.RunNo.{RunNo}
-use Rattle.home_types.specs.declared.worlds.Stand.{Stand}
-use Rattle.order_checker.specs.OrderLines.{OrderSetting, home_with_event, is_up_behind, may_run}
-use Rattle.order_checker.specs.RunLines.{is_told_committed}
 use Rattle.printed_records.proofs.SerialAnswers.{served_first}
-use Rattle.printed_records.specs.Fits.{AllStand, ItemsMayStand, MayStand, plain_item}
-use Rattle.std.proofs.Common.{ap, append_assoc, arith, refl, subst, sym, ◌∙◌}
-use Rattle.std.proofs.lemmas.Grind.{common_steps}
-use Rattle.std.proofs.lemmas.List.Folds.{list_any-append}
-use Rattle.std.proofs.lemmas.List.Sums.{sum_by-cons}
-use Rattle.std.specs.List.{list_any}
-use Rattle.std.specs.Option.{option_map_or}
-use Rattle.std.specs.Prelude.{Bool, IsTrue, List, None, Option, Some, [], cond, count_by, false, fold, if◌then◌else◌, is_none, length, map, not, slice_get, slice_set, suc, true, zero, ℕ, ⊤, ◌&&◌, ◌++◌, ◌+◌, ◌<◌, ◌==◌, ◌||◌, ◌∷◌, ◌≡◌}
+use Rattle.std.specs.Prelude.{count_by}
 
 -- ---- which devices are up
 

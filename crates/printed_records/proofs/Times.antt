@@ -2,21 +2,13 @@
 use Rattle.day_clock.specs.Times.{IsCivilTime}
 use Rattle.day_clock.specs.declared.times.When.{When}
 use Rattle.day_report.specs.Lines as printed
-use Rattle.day_report.specs.Lines.{window_line, zero_below}
+use Rattle.printed_records.proofs.Prelude.{Bool, List, Some, [], ap, append_assoc, ap₂, are_window_words, arith, bytes_eq, codes, common_steps, decimal, decimal_digit, decimal_step, digit, false, if◌then◌else◌, inl, inr, is_window_line, le-ltb, lines_of, nat_lt, refl, subst, sym, true, window_line, zero_below, ℕ, ◌%◌, ◌&&◌, ◌++◌, ◌+◌, ◌/◌, ◌<◌, ◌^◌, ◌∙◌, ◌∷◌, ◌≡◌, ◌≤◌, ◌⊎◌}
 use Rattle.order_checker.specs.Heads as checked
-use Rattle.order_checker.specs.Heads.{are_window_words, digit, is_window_line}
-use Rattle.order_checker.specs.Lines.{lines_of}
 use Rattle.printed_records.proofs.Firsts.{bytes_eq-self}
 use Rattle.printed_records.proofs.LineTexts.{line_with, lines-words, spaced, words-line}
 use Rattle.printed_records.proofs.Numerals.{decimal-word, is_number-decimal}
 use Rattle.printed_records.proofs.Plain.{AreWords, IsPlain, IsWord, is_plain, plain-append, word-plain, word-seen}
-use Rattle.std.proofs.Common.{Bool, List, Some, [], ap, ap₂, append_assoc, arith, false, inl, inr, nat_lt, refl, subst, sym, true, ℕ, ◌%◌, ◌&&◌, ◌+◌, ◌++◌, ◌/◌, ◌<◌, ◌≤◌, ◌∙◌, ◌^◌, ◌≡◌, ◌∷◌}
-use Rattle.std.proofs.lemmas.Bool.{le-ltb, lt-ltb}
-use Rattle.std.proofs.lemmas.Fmt.{decimal_digit, decimal_step}
-use Rattle.std.proofs.lemmas.Grind.{common_steps}
-use Rattle.std.specs.Fmt.{decimal}
-use Rattle.std.specs.Prelude.{codes, if◌then◌else◌, ◌⊎◌}
-use Rattle.std.specs.Str.{bytes_eq}
+use Rattle.std.proofs.lemmas.Bool.{lt-ltb}
 
 no-zero : (power n : ℕ) → power ≤ n → zero_below power n ≡ []
 no-zero power n above = ap (λ b. if b then codes "0" else []) (le-ltb n power above)

@@ -1,9 +1,5 @@
 -- The end that is told of a run, by its place.
-use Rattle.home_types.specs.declared.commands.Answer.{Answer}
-use Rattle.order_checker.specs.RunLines.{told_of}
-use Rattle.std.proofs.Common.{List, None, Option, ap, arith, false, suc, ℕ, ◌-◌, ◌==◌, ◌∙◌, ◌≡◌}
-use Rattle.std.proofs.lemmas.Grind.{common_steps}
-use Rattle.std.specs.Prelude.{if◌then◌else◌, option_and_then, slice_get}
+use Rattle.printed_records.proofs.Prelude.{Answer, List, None, Option, ap, arith, common_steps, false, if◌then◌else◌, option_and_then, slice_get, suc, told_of, ℕ, ◌-◌, ◌==◌, ◌∙◌, ◌≡◌}
 
 -- runs count from 1, places from 0
 pub told_at : (ends : List (Option (List Answer))) (i : ℕ) → told_of ends (suc i) ≡ option_and_then (λ told. told) (slice_get ends i)

@@ -1,14 +1,8 @@
 -- The last line.
-use Rattle.day_report.specs.Days.{counts_line}
-use Rattle.order_checker.specs.Lines.{lines_of}
-use Rattle.order_checker.specs.Totals.{RecordCounts, are_total_words, is_total}
-use Rattle.order_checker.specs.Words.{is_number}
+use Rattle.printed_records.proofs.Prelude.{List, RecordCounts, Some, [], ap, append-nil, append_assoc, are_total_words, arith, codes, counts_line, decimal, is_number, is_total, lines_of, refl, sym, true, ℕ, ◌&&◌, ◌++◌, ◌+◌, ◌-◌, ◌<◌, ◌^◌, ◌∙◌, ◌∷◌, ◌≡◌}
 use Rattle.printed_records.proofs.LineTexts.{line_with, lines-nothing, spaced, lines-words, words-line}
 use Rattle.printed_records.proofs.Numerals.{decimal-word, is_number-decimal}
 use Rattle.printed_records.proofs.Plain.{AreWords, IsWord, word-seen}
-use Rattle.std.proofs.Common.{List, Some, [], ap, append-nil, append_assoc, arith, refl, sym, true, ℕ, ◌&&◌, ◌+◌, ◌++◌, ◌-◌, ◌<◌, ◌∙◌, ◌^◌, ◌≡◌, ◌∷◌}
-use Rattle.std.specs.Fmt.{decimal}
-use Rattle.std.specs.Prelude.{codes}
 
 abbrev total_words : ℕ → ℕ → ℕ → List (List ℕ)
 total_words windows committed aborted =

@@ -1,34 +1,9 @@
 -- The lines of a trace: each is one line, and the check passes over it.
-use Rattle.day_report.specs.Lines.{entry_text, trace_line, trace_lines}
-use Rattle.day_report.specs.Words.{answer_text, cause_text, device_name, device_of, routine_of, states_of, value_text}
-use Rattle.history_book.specs.declared.entries.Cause.TheVariants.{DownAtEnd, Lost, MustDown, Refuted, Revoked}
-use Rattle.history_book.specs.declared.entries.Cause.{Cause}
-use Rattle.history_book.specs.declared.entries.End.TheVariants.{Aborted, Committed}
-use Rattle.history_book.specs.declared.entries.Entry.TheVariants.{Arrived, Did, Doomed, Ended, Fell, Placed, Rose, Undid}
-use Rattle.history_book.specs.declared.entries.Entry.{Entry}
-use Rattle.history_book.specs.declared.entries.Kept.{Kept}
-use Rattle.home_types.specs.declared.commands.Answer.TheVariants.{Down, Fine, Found, Skipped}
-use Rattle.home_types.specs.declared.commands.Answer.{Answer}
-use Rattle.home_types.specs.declared.commands.Command.{Command}
-use Rattle.home_types.specs.declared.kinds.Kind.TheVariants.{Range, States}
-use Rattle.home_types.specs.declared.kinds.Kind.{Kind}
-use Rattle.order_checker.specs.Lines.{lines_of}
+use Rattle.printed_records.proofs.Prelude.{Aborted, All, All-append, All-cons, All-get_or, Answer, Arrived, Bool, Cause, Command, Committed, DeviceText, Did, Doomed, Down, DownAtEnd, Ended, Entry, Fell, Fine, Found, IsName, IsSound, IsSoundKind, Kept, Kind, List, Lost, MustDown, None, Option, Placed, Range, Refuted, Revoked, Rose, RoutineText, Script, Skipped, Some, States, Undid, WindowText, [], answer_text, ap, append_assoc, arith, cause_text, codes, common_steps, decimal, device_name, device_of, digit_glyph, digits_onto, entry_text, false, flat_map, get_or_from_slice_get, if◌then◌else◌, lines_of, option_and_then, option_map, plain_script, refl, routine_of, slice_get, slice_get_within, states_of, subst, suc, sym, trace_line, trace_lines, true, unwrap_or, value_text, zero, ℕ, ◌%◌, ◌++◌, ◌+◌, ◌/◌, ◌<◌, ◌==◌, ◌∙◌, ◌∷◌, ◌≡◌}
 use Rattle.printed_records.proofs.LineTexts.{lines-note}
 use Rattle.printed_records.proofs.Names.{name-word, sound-device}
 use Rattle.printed_records.proofs.Plain.{Lacks, lacks-seen}
-use Rattle.routine_reader.specs.Scripts.{plain_script}
-use Rattle.routine_reader.specs.Sound.{IsName, IsSound, IsSoundKind}
-use Rattle.routine_reader.specs.declared.scripts.DeviceText.{DeviceText}
-use Rattle.routine_reader.specs.declared.scripts.RoutineText.{RoutineText}
-use Rattle.routine_reader.specs.declared.scripts.Script.{Script}
-use Rattle.routine_reader.specs.declared.scripts.WindowText.{WindowText}
-use Rattle.std.proofs.Common.{Bool, List, None, Option, Some, [], ap, append_assoc, arith, false, option_map, refl, subst, suc, sym, true, unwrap_or, zero, ℕ, ◌%◌, ◌+◌, ◌++◌, ◌/◌, ◌<◌, ◌==◌, ◌∙◌, ◌≡◌, ◌∷◌}
-use Rattle.std.proofs.lemmas.Grind.{common_steps}
-use Rattle.std.proofs.lemmas.List.Elements.{All-append, All-cons, All-get_or}
-use Rattle.std.proofs.lemmas.Option.{get_or_from_slice_get, slice_get_within}
-use Rattle.std.specs.Fmt.{decimal, digit_glyph, digits, digits_onto}
-use Rattle.std.specs.List.{flat_map}
-use Rattle.std.specs.Prelude.{All, codes, if◌then◌else◌, option_and_then, slice_get}
+use Rattle.std.specs.Fmt.{digits}
 
 -- one line's text
 abbrev NoFeed : List ℕ → Type 0

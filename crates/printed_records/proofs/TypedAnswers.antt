@@ -1,24 +1,6 @@
 -- The answers of a run suit its commands.
-use Rattle.command_rules.specs.Rosters.{command_at, commands_of, no_command}
-use Rattle.history_book.proofs.Cited.{put_all}
-use Rattle.history_book.specs.Histories.{entry, reading}
-use Rattle.history_book.specs.Readings.{OfRun, Reading, nothing_read}
-use Rattle.history_book.specs.Settings.{Setting}
-use Rattle.history_book.specs.WellFormed.{IsWellFormed, along, may_follow, suits}
-use Rattle.history_book.specs.declared.entries.End.TheVariants.{Aborted, Committed}
-use Rattle.history_book.specs.declared.entries.Entry.TheVariants.{Arrived, Did, Doomed, Ended, Fell, Placed, Rose, Undid}
-use Rattle.history_book.specs.declared.entries.Entry.{Entry}
-use Rattle.home_types.specs.Commands.{holds, is_always}
-use Rattle.home_types.specs.declared.commands.Answer.TheVariants.{Down, Fine, Found, Skipped}
-use Rattle.home_types.specs.declared.commands.Answer.{Answer}
-use Rattle.home_types.specs.declared.commands.Command.{Command}
+use Rattle.printed_records.proofs.Prelude.{Aborted, Answer, AreTyped, Arrived, Command, Committed, Did, Doomed, Down, Ended, Entry, Fell, Fine, Found, Guard, IsTrue, IsTyped, IsWellFormed, Kind, List, OfRun, Placed, Reading, Rose, Setting, Skipped, Undid, [], along, arith, command_at, commands_of, common_steps, entry, false, fold, holds, is_always, length, may_follow, no_command, not, nothing_read, put_all, reading, refl, slice_index_or, subst, suits, sym, true, true≢false, ℕ, ⊤, ◌++◌, ◌<◌, ◌∷◌, ◌≡◌}
 use Rattle.home_types.specs.declared.commands.Guard.TheVariants.{Always, Below, Is}
-use Rattle.home_types.specs.declared.commands.Guard.{Guard}
-use Rattle.home_types.specs.declared.kinds.Kind.{Kind}
-use Rattle.printed_records.specs.Typed.{AreTyped, IsTyped}
-use Rattle.std.proofs.Common.{arith, refl, subst, sym, true≢false}
-use Rattle.std.proofs.lemmas.Grind.{common_steps}
-use Rattle.std.specs.Prelude.{IsTrue, List, [], false, fold, length, not, slice_index_or, true, ℕ, ⊤, ◌++◌, ◌<◌, ◌∷◌, ◌≡◌}
 
 -- the answers so far suit the first commands
 abbrev pub SuitSoFar : List Kind → List Answer → List Command → Type 0

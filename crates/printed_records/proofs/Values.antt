@@ -1,31 +1,9 @@
 -- Values and answers as they are printed, read again.
-use Rattle.day_report.specs.Words.{answer_text, value_text}
-use Rattle.home_types.specs.Commands.{is_always, writes}
-use Rattle.home_types.specs.Kinds.{has_value}
-use Rattle.home_types.specs.declared.commands.Answer.TheVariants.{Down, Fine, Found, Skipped}
-use Rattle.home_types.specs.declared.commands.Answer.{Answer}
-use Rattle.home_types.specs.declared.commands.Command.{Command}
-use Rattle.home_types.specs.declared.kinds.Kind.TheVariants.{Range, States}
-use Rattle.home_types.specs.declared.kinds.Kind.{Kind}
-use Rattle.order_checker.specs.Values.{answer_of, value_at, value_of, value_written}
+use Rattle.printed_records.proofs.Prelude.{All-get_or, Answer, Bool, Command, DeviceText, Down, Fine, Found, IsName, IsSoundDevice, IsSoundKind, Kind, List, None, Range, Skipped, Some, States, [], answer_of, answer_text, ap, arith, bytes_eq, bytes_eq-Decides, codes, common_steps, decimal, false, get_or, has_value, if◌then◌else◌, is_always, is_ascii_digit, length, list_all, not, option_and_then, option_map, plain_device, refl, slice_get, slice_get-get_or, starts_with_letter, subst, sym, true, true≢false, unwrap_or, value_at, value_of, value_text, value_written, writes, ℕ, ⊤, ◌&&◌, ◌<◌, ◌^◌, ◌∙◌, ◌≡◌}
 use Rattle.printed_records.proofs.Firsts.{bytes_eq-self, position-at}
 use Rattle.printed_records.proofs.Names.{name-letter, name-plain}
 use Rattle.printed_records.proofs.Numerals.{decimal-plain, decimal-digits, number-decimal}
 use Rattle.printed_records.proofs.Plain.{IsPlain}
-use Rattle.routine_reader.specs.Names.{starts_with_letter}
-use Rattle.routine_reader.specs.Scripts.{plain_device}
-use Rattle.routine_reader.specs.Sound.{IsName, IsSoundDevice, IsSoundKind}
-use Rattle.routine_reader.specs.declared.scripts.DeviceText.{DeviceText}
-use Rattle.std.proofs.Common.{Bool, List, None, Some, [], ap, arith, false, get_or, length, option_map, refl, subst, sym, true, true≢false, unwrap_or, ℕ, ◌<◌, ◌^◌, ◌∙◌, ◌≡◌}
-use Rattle.std.proofs.lemmas.Grind.{common_steps}
-use Rattle.std.proofs.lemmas.List.Elements.{All-get_or}
-use Rattle.std.proofs.lemmas.Option.{slice_get-get_or}
-use Rattle.std.proofs.lemmas.Slice.Eq.{bytes_eq-Decides}
-use Rattle.std.specs.Char.{is_ascii_digit}
-use Rattle.std.specs.Fmt.{decimal}
-use Rattle.std.specs.List.{list_all}
-use Rattle.std.specs.Prelude.{codes, if◌then◌else◌, not, option_and_then, slice_get, ⊤, ◌&&◌}
-use Rattle.std.specs.Str.{bytes_eq}
 
 -- the text of a value: plain, not the word for down or for skipped, and read as the value
 pub record IsValueText (kind : Kind) (states : List (List ℕ)) (v : ℕ) (text : List ℕ) : Type 0 where

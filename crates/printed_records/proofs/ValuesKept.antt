@@ -1,36 +1,7 @@
 -- The serial execution leaves each device at a value of its kind.
-use Rattle.command_rules.specs.Rosters.{Run, commands_of}
-use Rattle.command_rules.specs.Serial.{SerialRun, serve}
-use Rattle.home_types.specs.Commands.{Execution, command_effect, done_effect, execute, holds}
-use Rattle.home_types.specs.HomeStates.{stand_at, with_up}
-use Rattle.home_types.specs.Kinds.{has_value, kind_at, nearest}
-use Rattle.home_types.specs.declared.commands.Answer.TheVariants.{Skipped}
-use Rattle.home_types.specs.declared.commands.Command.{Command}
-use Rattle.home_types.specs.declared.commands.Guard.{Guard}
-use Rattle.home_types.specs.declared.commands.Job.TheVariants.{Check, Load, Set, Store}
-use Rattle.home_types.specs.declared.commands.Job.{Job}
-use Rattle.home_types.specs.declared.items.Item.TheVariants.{Back, Failed, Ran}
-use Rattle.home_types.specs.declared.items.Item.{Item}
-use Rattle.home_types.specs.declared.kinds.Kind.TheVariants.{Range, States}
-use Rattle.home_types.specs.declared.kinds.Kind.{Kind}
-use Rattle.home_types.specs.declared.worlds.Stand.{Stand}
-use Rattle.legal_days.proofs.Cited.{at_place}
+use Rattle.printed_records.proofs.Prelude.{All-get_or, Back, Bool, Check, Command, DeviceText, Execution, Failed, Guard, HaveValues, IsSound, IsSoundCommand, IsSoundDevice, IsSoundKind, IsSoundWindow, Item, Job, Kind, List, Load, None, Option, Ran, Range, Run, RunText, Script, SerialRun, Set, Skipped, Some, Stand, States, Store, WindowText, [], ap, arith, at_place, command_effect, commands_of, common_steps, device_kinds, done_effect, execute, false, fold, get_or, get_or_from_slice_get, has_value, holds, if◌then◌else◌, kind_at, kinds_of, length, length-map, map, nearest, option_map, plain_device, plain_routine, plain_script, plain_window, refl, run_of_text, serve, slice_get, slice_get-map, slice_get_within, slice_set, stand_at, start_home, start_stand, subst, suc, suits_device, sym, true, unwrap_or, with_up, zero, ℕ, ◌<◌, ◌∙◌, ◌∷◌, ◌≡◌}
 use Rattle.printed_records.proofs.Names.{sound-device, sound-routine}
 use Rattle.printed_records.proofs.Runs.{IsRunOf, device-kind, device-there, run-commands}
-use Rattle.printed_records.specs.FitWindows.{HaveValues}
-use Rattle.routine_reader.specs.Rosters.{kinds_of, run_of_text, start_home, start_stand}
-use Rattle.routine_reader.specs.Scripts.{plain_device, plain_routine, plain_script, plain_window}
-use Rattle.routine_reader.specs.Sound.{IsSound, IsSoundCommand, IsSoundDevice, IsSoundKind, IsSoundWindow, device_kinds, suits_device}
-use Rattle.routine_reader.specs.declared.scripts.DeviceText.{DeviceText}
-use Rattle.routine_reader.specs.declared.scripts.RunText.{RunText}
-use Rattle.routine_reader.specs.declared.scripts.Script.{Script}
-use Rattle.routine_reader.specs.declared.scripts.WindowText.{WindowText}
-use Rattle.std.proofs.Common.{Bool, List, None, Option, Some, [], ap, arith, false, fold, get_or, length, map, option_map, refl, subst, suc, sym, true, unwrap_or, zero, ℕ, ◌<◌, ◌∙◌, ◌≡◌, ◌∷◌}
-use Rattle.std.proofs.lemmas.Grind.{common_steps}
-use Rattle.std.proofs.lemmas.List.Elements.{All-get_or}
-use Rattle.std.proofs.lemmas.List.{length-map}
-use Rattle.std.proofs.lemmas.Option.{get_or_from_slice_get, slice_get-map, slice_get_within}
-use Rattle.std.specs.Prelude.{if◌then◌else◌, slice_get, slice_set}
 
 -- each value that is brought into the kind is one of it
 abbrev pub Fills : Kind → Type 0

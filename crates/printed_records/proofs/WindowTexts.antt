@@ -1,24 +1,5 @@
 -- The lines of a window, read again.
-use Rattle.day_report.specs.Days.{window_lines}
-use Rattle.day_report.specs.Lines.{home_line, line_of_run, order_line, run_lines, trace_lines, window_line}
-use Rattle.day_report.specs.Words.{run_at}
-use Rattle.history_book.specs.Books.{end_of}
-use Rattle.history_book.specs.declared.entries.Kept.{Kept}
-use Rattle.history_book.specs.declared.records.WindowRecord.{WindowRecord}
-use Rattle.home_types.specs.declared.commands.Answer.{Answer}
-use Rattle.home_types.specs.declared.modes.Mode.{Mode}
-use Rattle.home_types.specs.declared.modes.Visibility.TheVariants.{Weak}
-use Rattle.home_types.specs.declared.worlds.Stand.{Stand}
-use Rattle.legal_days.proofs.Cited.{at_place}
-use Rattle.order_checker.specs.Answers.{home_behind}
-use Rattle.order_checker.specs.HomeLines.{home_agrees, home_told, next_device_told, stands_so}
-use Rattle.order_checker.specs.Lines.{line_at, lines_of}
-use Rattle.order_checker.specs.OrderLines.{order_told}
-use Rattle.order_checker.specs.RunLines.{run_told}
-use Rattle.order_checker.specs.Steps.{required, walk, ◌>>=◌}
-use Rattle.order_checker.specs.Windows.{DayProgress, RunsTold, named_routine, next_run_told, order_end_told, window_line_told, window_told}
-use Rattle.order_checker.specs.declared.verdicts.Place.TheVariants.{Device, Window}
-use Rattle.order_checker.specs.declared.verdicts.Place.{Place}
+use Rattle.printed_records.proofs.Prelude.{Answer, Bool, DayProgress, Device, DeviceText, HaveValues, IsSound, IsSoundDevice, IsSoundWindow, Kept, List, Mode, Ok, Option, Place, Result, RunFits, RunText, RunsTold, Script, Some, Stand, Weak, Window, WindowFits, WindowRecord, WindowText, [], ap, append-nil, append_assoc, ap₂, arith, at_place, count_by, drop, end_of, ends_told, enumerate_from, eq-eqb, false, flat_map, home_agrees, home_behind, home_line, home_told, if◌then◌else◌, is_some, kinds_of, length, length-append, length-map, line_at, line_of_run, lines_of, map, named_routine, next_device_told, next_run_told, not, option_map_or, order_end_told, order_line, order_setting, order_told, plain_device, plain_routine, plain_script, plain_window, refl, required, routine_commands, run_at, run_lines, run_of_text, run_told, slice_get, slice_get_within, stands_so, suc, sym, told_end, trace_lines, true, walk, window_line, window_line_told, window_lines, window_told, ℕ, ◌&&◌, ◌++◌, ◌+◌, ◌<◌, ◌>>=◌, ◌^◌, ◌∙◌, ◌∷◌, ◌≡◌, ◌≢◌, ◌≤◌}
 use Rattle.printed_records.proofs.HomeTexts.{StandWell, home-printed}
 use Rattle.printed_records.proofs.Names.{sound-device}
 use Rattle.printed_records.proofs.OrderTexts.{order-printed}
@@ -26,23 +7,6 @@ use Rattle.printed_records.proofs.RunTexts.{run-printed}
 use Rattle.printed_records.proofs.Runs.{IsRunOf}
 use Rattle.printed_records.proofs.Times.{window-line}
 use Rattle.printed_records.proofs.Traces.{trace-passed}
-use Rattle.printed_records.specs.Ends.{ends_told, told_end}
-use Rattle.printed_records.specs.FitWindows.{HaveValues, WindowFits, order_setting}
-use Rattle.printed_records.specs.Fits.{RunFits}
-use Rattle.routine_reader.specs.Rosters.{kinds_of, routine_commands, run_of_text}
-use Rattle.routine_reader.specs.Scripts.{plain_device, plain_routine, plain_script, plain_window}
-use Rattle.routine_reader.specs.Sound.{IsSound, IsSoundDevice, IsSoundWindow}
-use Rattle.routine_reader.specs.declared.scripts.DeviceText.{DeviceText}
-use Rattle.routine_reader.specs.declared.scripts.RunText.{RunText}
-use Rattle.routine_reader.specs.declared.scripts.Script.{Script}
-use Rattle.routine_reader.specs.declared.scripts.WindowText.{WindowText}
-use Rattle.std.proofs.Common.{Bool, List, Ok, Option, Result, Some, [], ap, ap₂, append-nil, append_assoc, arith, drop, false, length, length-append, map, not, refl, suc, sym, true, ℕ, ◌&&◌, ◌+◌, ◌++◌, ◌<◌, ◌≤◌, ◌^◌, ◌∙◌, ◌≡◌, ◌≢◌, ◌∷◌}
-use Rattle.std.proofs.lemmas.Bool.{eq-eqb}
-use Rattle.std.proofs.lemmas.List.{length-map}
-use Rattle.std.proofs.lemmas.Option.{slice_get_within}
-use Rattle.std.specs.List.{count_by, enumerate_from, flat_map}
-use Rattle.std.specs.Option.{option_map_or}
-use Rattle.std.specs.Prelude.{if◌then◌else◌, is_some, slice_get}
 
 -- ---- the home
 

@@ -1,8 +1,5 @@
 -- Words behind each other, each read for an item of its own.
-use Rattle.order_checker.specs.Steps.{walk, ◌>>=◌}
-use Rattle.order_checker.specs.declared.verdicts.Place.{Place}
-use Rattle.std.proofs.Common.{List, Ok, Option, Result, Some, [], ap, append-nil, append_assoc, arith, length, length-append, refl, sym, ℕ, ◌++◌, ◌∙◌, ◌≡◌, ◌∷◌}
-use Rattle.std.specs.Prelude.{ok_or, slice_index_or, ⊤}
+use Rattle.printed_records.proofs.Prelude.{List, Ok, Option, Place, Result, Some, [], ap, append-nil, append_assoc, arith, length, length-append, ok_or, refl, slice_index_or, sym, walk, ℕ, ⊤, ◌++◌, ◌>>=◌, ◌∙◌, ◌∷◌, ◌≡◌}
 
 -- each word is read for the item in its place
 abbrev pub AreRead : {X Y : Type 0} → (X → List ℕ → Option Y) → List X → List (List ℕ) → List Y → Type 0

@@ -1,18 +1,7 @@
 -- Runs that are found by their numbers.
-use Rattle.command_rules.specs.Rosters.{Run, commands_of, plain_run, run_no}
-use Rattle.command_rules.specs.declared.rosters.RosterRun.{RosterRun}
-use Rattle.home_types.specs.declared.commands.Command.{Command}
-use Rattle.home_types.specs.declared.numbers.RunNo.{RunNo}
-use Rattle.room_hubs.specs.Numbers.{IsOwnRun, home_run, plain_room}
-use Rattle.room_hubs.specs.Splits.{cross_at, cross_fault, crosses, crosses_rooms}
+use Rattle.room_hubs.proofs.Prelude.{Bool, Command, IsOwnRun, List, None, Option, RosterRun, Run, RunNo, Some, [], ap, arith, commands_of, common_steps, cross_at, cross_fault, crosses, crosses_rooms, false, get_or, get_or-map, home_run, if◌then◌else◌, length, length-map, map, nat_lt, option_map, plain_room, plain_run, position, refl, run_no, slice_get, slice_get-map, slice_get_past, slice_get_read, suc, sym, true, unwrap_or, zero, ℕ, ◌+◌, ◌-◌, ◌<◌, ◌∙◌, ◌≡◌, ◌≢◌, ◌≤◌}
 use Rattle.room_hubs.specs.declared.rosters.RoomRoster.{RoomRoster}
 use Rattle.room_hubs.specs.declared.splits.SplitFault.TheVariants.{CrossFollow, CrossRoom}
-use Rattle.std.proofs.Common.{Bool, List, None, Option, Some, [], ap, arith, false, get_or, length, map, nat_lt, option_map, refl, suc, sym, true, zero, ℕ, ◌+◌, ◌-◌, ◌<◌, ◌∙◌, ◌≡◌, ◌≢◌, ◌≤◌}
-use Rattle.std.proofs.lemmas.Grind.{common_steps}
-use Rattle.std.proofs.lemmas.List.{get_or-map, length-map}
-use Rattle.std.proofs.lemmas.Option.{slice_get-map, slice_get_past, slice_get_read}
-use Rattle.std.specs.List.{position}
-use Rattle.std.specs.Prelude.{if◌then◌else◌, slice_get, unwrap_or}
 
 -- the commands of a run by a look at its place
 pub commands_found : (runs : List RosterRun) (r : ℕ) (found : Option RosterRun) → r ≢ 0 → found ≡ slice_get runs (r - 1)

@@ -1,16 +1,6 @@
 -- Where the home stands as its rooms do, each room stands so in it.
-use Rattle.home_types.specs.HomeStates.{nowhere, stand_at}
-use Rattle.home_types.specs.declared.worlds.Stand.{Stand}
+use Rattle.room_hubs.proofs.Prelude.{List, Room, RoomHome, Stand, [], ap, arith, common_steps, device_room, devices_in, get_or, get_or-map, get_or-range_with_len, joined_home, length, length-range_with_len, map, nowhere, place_in, range_with_len, refl, room_home, slice_index_or, stand_at, stand_in, suc, sym, true, ℕ, ◌+◌, ◌<◌, ◌==◌, ◌∙◌, ◌∷◌, ◌≡◌}
 use Rattle.room_hubs.proofs.Parts.{Filtered, filtered, placed}
-use Rattle.room_hubs.specs.Numbers.{Room, place_in, room_home}
-use Rattle.room_hubs.specs.Splits.{device_room, devices_in}
-use Rattle.room_hubs.specs.ToldWindows.{RoomHome, joined_home, stand_in}
-use Rattle.std.proofs.Common.{List, [], ap, arith, get_or, length, map, refl, suc, sym, true, ℕ, ◌+◌, ◌<◌, ◌∙◌, ◌≡◌, ◌∷◌}
-use Rattle.std.proofs.lemmas.Grind.{common_steps}
-use Rattle.std.proofs.lemmas.List.FromFn.{get_or-range_with_len, length-range_with_len}
-use Rattle.std.proofs.lemmas.List.{get_or-map}
-use Rattle.std.specs.List.{range_with_len}
-use Rattle.std.specs.Prelude.{slice_index_or, ◌==◌}
 
 equal : (a b : ℕ) → (a == b) ≡ true → a ≡ b
 equal a b e = grind (arith, common_steps)

@@ -1,14 +1,8 @@
 -- The joined order is a merge in which each room has its own order.
 use Rattle.home_types.specs.declared.items.Item.{Item}
 use Rattle.room_hubs.proofs.Loops.{next_mapped}
-use Rattle.room_hubs.specs.Merges.{IsMerge, Merge, RoomOrders, home_order, joined_merge, joined_order, order_of_room, own_order, room_in, room_order}
-use Rattle.room_hubs.specs.Numbers.{IsOwnItem, Room, home_item, plain_room}
+use Rattle.room_hubs.proofs.Prelude.{All, IsMerge, IsOwnItem, List, Merge, Room, RoomOrders, [], ap, append-nil, append_assoc, arith, common_steps, filter, filter-append, get_or, home_item, home_order, if◌then◌else◌, joined_merge, joined_order, length, map, map-append, order_of_room, own_order, plain_room, refl, room_in, room_order, subst, suc, sym, take, zero, ℕ, ◌++◌, ◌+◌, ◌<◌, ◌==◌, ◌∙◌, ◌∷◌, ◌≡◌, ◌≢◌}
 use Rattle.room_hubs.specs.declared.rosters.RoomWindow.{RoomWindow}
-use Rattle.std.proofs.Common.{All, List, [], ap, append_assoc, arith, get_or, length, map, refl, subst, suc, sym, take, zero, ℕ, ◌+◌, ◌++◌, ◌<◌, ◌∙◌, ◌≡◌, ◌≢◌, ◌∷◌}
-use Rattle.std.proofs.lemmas.Grind.{common_steps}
-use Rattle.std.proofs.lemmas.List.Elements.{filter-append}
-use Rattle.std.proofs.lemmas.List.{append-nil, map-append}
-use Rattle.std.specs.Prelude.{filter, if◌then◌else◌, ◌==◌}
 
 own_append : (k : ℕ) (a b : Merge) → own_order k (a ++ b) ≡ own_order k a ++ own_order k b
 own_append k a b =

@@ -4,6 +4,7 @@ mod Loops
 mod Merges
 mod Names
 mod Parts
+mod Prelude
 mod Sizes
 mod Steps
 mod RoomScripts

@@ -1,12 +1,6 @@
 -- Lists that are made number by number, and places of numbers.
-use Rattle.std.proofs.Common.{Bool, List, None, Some, [], ap, arith, cond, fold, get_or, length, map, nat_lt, not, refl, suc, sym, take, true, false, ℕ, ◌+◌, ◌++◌, ◌<◌, ◌∙◌, ◌≡◌, ◌≤◌, ◌∷◌}
-use Rattle.std.proofs.lemmas.Grind.{common_steps}
-use Rattle.std.proofs.lemmas.List.Elements.{filter_more}
-use Rattle.std.proofs.lemmas.List.FromFn.{get_or-range_with_len, length-range_with_len}
+use Rattle.room_hubs.proofs.Prelude.{Bool, List, None, Some, [], ap, arith, common_steps, cond, false, filter, filter_more, fold, get_or, get_or-range_with_len, if◌then◌else◌, length, length-range_with_len, list_any, map, map-append, nat_lt, not, position, position_or_len, range_with_len, refl, suc, sym, take, take_all, take_more, true, ℕ, ◌++◌, ◌+◌, ◌<◌, ◌||◌, ◌∙◌, ◌∷◌, ◌≡◌, ◌≤◌}
 use Rattle.std.proofs.lemmas.List.Sums.{fold-append, prefix_len-le-length}
-use Rattle.std.proofs.lemmas.List.{map-append, take_all, take_more}
-use Rattle.std.specs.List.{list_any, position, position_or_len, range_with_len}
-use Rattle.std.specs.Prelude.{filter, if◌then◌else◌, ◌||◌}
 
 -- the next number passes the test or does not
 pub next_number : (p : ℕ → Bool) (a n i m : ℕ) (b : Bool) → i < n → a + i ≡ m → p m ≡ b

@@ -1,22 +1,11 @@
 -- A merge does to the home what the rooms' own orders do to the rooms.
-use Rattle.command_rules.specs.Rosters.{Run, commands_of, run_no}
+use Rattle.room_hubs.proofs.Prelude.{Bool, InStep, IsMerge, IsOwnDevice, IsOwnItem, IsOwnRun, Kind, List, Merge, PartHome, Room, Run, Stand, [], answers_of, ap, append-nil, arith, cases_eq, commands_of, common_steps, false, filter, filter-append, fold, home_device, home_item, home_order, home_run, if◌then◌else◌, length, length-map, length-set, map, map-append, not, own_order, refl, room_home, room_kinds, run_no, set, stand_at, subst, suc, sym, true, ℕ, ⊎_elim, ◌++◌, ◌==◌, ◌||◌, ◌∙◌, ◌∷◌, ◌≡◌, ◌≢◌}
 use Rattle.command_rules.specs.Serial.{SerialRun, Served, serial_execution, serve}
 use Rattle.home_types.specs.Commands.{Execution, routine_execution}
-use Rattle.home_types.specs.HomeStates.{stand_at}
 use Rattle.home_types.specs.declared.commands.Answer.{Answer}
 use Rattle.home_types.specs.declared.items.Item.TheVariants.{Back, Failed, Ran}
 use Rattle.home_types.specs.declared.items.Item.{Item}
-use Rattle.home_types.specs.declared.kinds.Kind.{Kind}
-use Rattle.home_types.specs.declared.worlds.Stand.{Stand}
 use Rattle.room_hubs.proofs.Steps.{Alike, commands, others_set, stand_in_room, stands_set}
-use Rattle.room_hubs.specs.Merges.{InStep, IsMerge, Merge, PartHome, answers_of, home_order, own_order}
-use Rattle.room_hubs.specs.Numbers.{IsOwnDevice, IsOwnItem, IsOwnRun, Room, home_device, home_item, home_run, room_home, room_kinds}
-use Rattle.std.proofs.Common.{Bool, List, [], ap, arith, false, fold, length, map, refl, set, subst, suc, sym, true, ℕ, ⊎_elim, ◌++◌, ◌∙◌, ◌≡◌, ◌≢◌, ◌∷◌}
-use Rattle.std.proofs.lemmas.Bool.{cases_eq}
-use Rattle.std.proofs.lemmas.Grind.{common_steps}
-use Rattle.std.proofs.lemmas.List.Elements.{filter-append}
-use Rattle.std.proofs.lemmas.List.{append-nil, length-map, length-set, map-append}
-use Rattle.std.specs.Prelude.{filter, if◌then◌else◌, not, ◌==◌, ◌||◌}
 
 -- one of two by a test of numbers
 pick : {X : Type 0} (P : X → Type 0) (k j : ℕ) (u v : X) → (k ≡ j → P u) → (k ≢ j → P v) → P (if k == j then u else v)

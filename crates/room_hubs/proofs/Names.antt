@@ -1,13 +1,7 @@
 -- The rooms of one device more.
 use Rattle.room_hubs.proofs.Loops.{next_folded, place_none, place_some}
-use Rattle.room_hubs.specs.Rooms.{PlainRooms, no_rooms, room_name, with_device, with_room}
+use Rattle.room_hubs.proofs.Prelude.{Bool, DeviceText, List, None, PlainRooms, Some, [], ap, arith, bytes_eq, false, fold, get_or, if◌then◌else◌, length, length-append, map, no_rooms, position_or_len, room_name, sym, take, true, with_device, with_room, ℕ, ◌++◌, ◌+◌, ◌<◌, ◌∙◌, ◌∷◌, ◌≡◌, ◌≤◌}
 use Rattle.routine_reader.specs.Names.{is_among, place_of}
-use Rattle.routine_reader.specs.declared.scripts.DeviceText.{DeviceText}
-use Rattle.std.proofs.Common.{Bool, List, None, Some, [], ap, arith, false, fold, get_or, length, map, sym, take, true, ℕ, ◌+◌, ◌++◌, ◌<◌, ◌∙◌, ◌≡◌, ◌≤◌, ◌∷◌}
-use Rattle.std.proofs.lemmas.List.{length-append}
-use Rattle.std.specs.List.{position_or_len}
-use Rattle.std.specs.Prelude.{if◌then◌else◌}
-use Rattle.std.specs.Str.{bytes_eq}
 
 -- at most one more name
 pub names_few : (names : List (List ℕ)) (room : List ℕ) → length (with_room names room) ≤ length names + 1

@@ -1,30 +1,10 @@
 -- The runs of a room of a sound script, in the room's own numbers: their commands suit the room's devices, and each follows an earlier one.
-use Rattle.command_rules.specs.Rosters.{Run, commands_of, followed_by, run_in_roster}
-use Rattle.home_types.specs.Kinds.{kind_at}
-use Rattle.home_types.specs.Limits.{most_commands, most_runs}
-use Rattle.home_types.specs.declared.commands.Command.{Command}
-use Rattle.home_types.specs.declared.kinds.Kind.{Kind}
-use Rattle.home_types.specs.declared.numbers.RunNo.{RunNo}
+use Rattle.room_hubs.proofs.Prelude.{Bool, Command, IsOwnDevice, IsOwnRun, IsParted, IsSound, Kind, List, None, Option, PartHome, Room, Run, RunNo, Script, Some, [], ap, arith, cases_order, commands_of, common_steps, crosses, crosses_rooms, false, filter, followed_by, follows_across, get_or, get_or_from_slice_get, home_command, home_run, if◌then◌else◌, inl, inr, kind_at, kinds_of, length, length-map, map, most_commands, most_runs, not, option_and_then, option_map, own_run, own_run_no, place_in, plain_script, range_with_len, refl, room_at, room_kinds, rooms_of, run_in_roster, run_room, run_with, runs_in, script_runs, slice_get, slice_get-get_or, slice_get-map, slice_get_within, start_home, subst, suc, suits_device, sym, true, true≢false, unwrap_or, zero, ℕ, ◌+◌, ◌<◌, ◌==◌, ◌||◌, ◌∙◌, ◌∷◌, ◌≡◌, ◌≤◌, ◌⊎◌}
 use Rattle.room_hubs.proofs.Parts.{Filtered, filtered, no_place, parts, placed}
 use Rattle.room_hubs.proofs.Sizes.{runs_few}
 use Rattle.room_hubs.proofs.SoundRuns.{commands_sound, follows_sound, rooms_size}
 use Rattle.room_hubs.proofs.Steps.{kind_in_room}
-use Rattle.room_hubs.specs.Merges.{PartHome}
-use Rattle.room_hubs.specs.Numbers.{IsOwnDevice, IsOwnRun, Room, home_command, home_run, own_run, own_run_no, place_in, room_kinds}
-use Rattle.room_hubs.specs.Rooms.{rooms_of}
-use Rattle.room_hubs.specs.Splits.{IsParted, crosses, crosses_rooms, follows_across, room_at, run_room, run_with, runs_in}
-use Rattle.routine_reader.specs.Rosters.{kinds_of, script_runs, start_home}
-use Rattle.routine_reader.specs.Scripts.{plain_script}
-use Rattle.routine_reader.specs.Sound.{IsSound, suits_device}
-use Rattle.routine_reader.specs.declared.scripts.Script.{Script}
-use Rattle.std.proofs.Common.{Bool, List, None, Option, Some, [], ap, arith, false, get_or, inl, inr, length, map, not, option_map, refl, subst, suc, sym, true, true≢false, zero, ℕ, ◌+◌, ◌<◌, ◌∙◌, ◌≡◌, ◌≤◌, ◌∷◌}
-use Rattle.std.proofs.lemmas.Bool.{cases_order}
-use Rattle.std.proofs.lemmas.Grind.{common_steps}
-use Rattle.std.proofs.lemmas.List.{length-map}
-use Rattle.std.proofs.lemmas.Option.{get_or_from_slice_get, slice_get-get_or, slice_get-map, slice_get_within}
-use Rattle.std.specs.List.{range_with_len}
 use Rattle.std.specs.Option.{option_map_or}
-use Rattle.std.specs.Prelude.{filter, if◌then◌else◌, option_and_then, slice_get, unwrap_or, ◌==◌, ◌||◌, ◌⊎◌}
 
 -- numbers that pass ascend
 pub ascends : (p : ℕ → Bool) (a n : ℕ) (i j : ℕ) → i < j → j < length (filter p (range_with_len a n)) → get_or (filter p (range_with_len a n)) i 0 < get_or (filter p (range_with_len a n)) j 0

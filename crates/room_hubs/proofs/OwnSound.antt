@@ -1,28 +1,12 @@
 -- The script of a room with its devices alone is sound.
 use Rattle.home_types.specs.Listed.{Listed}
-use Rattle.home_types.specs.declared.numbers.DeviceNo.{DeviceNo}
-use Rattle.room_hubs.specs.Numbers.{numbers_of_devices}
+use Rattle.room_hubs.proofs.Prelude.{All, AreDifferent, Bool, DeviceNo, DeviceText, IsSound, IsSoundDevice, List, PlainDevice, RoutineText, Script, WindowText, [], ap, arith, bytes_eq, cases_order, device_room, devices_in, false, get_or, get_or-map, get_or-take, get_or_default, get_or_from_slice_get, inl, inr, length, length-map, length-take, map, no_device_text, numbers_of_devices, plain_device, plain_devices, plain_routine, plain_script, plain_window, refl, room_devices, rooms_of, slice_get-get_or, slice_get_within, slice_index_or, subst, sym, take, true, true≢false, ℕ, ◌<◌, ◌==◌, ◌∙◌, ◌≡◌, ◌⊎◌}
 use Rattle.room_hubs.proofs.Parts.{Filtered, filtered, none_passes}
 use Rattle.room_hubs.proofs.RoomScripts.{device_there, seen_devices}
 use Rattle.room_hubs.proofs.SoundRuns.{rooms_size}
-use Rattle.room_hubs.specs.RoomScripts.{no_device_text, plain_devices, room_devices}
-use Rattle.room_hubs.specs.Rooms.{rooms_of}
-use Rattle.room_hubs.specs.Splits.{device_room, devices_in}
 use Rattle.routine_reader.specs.Devices.{device_names}
-use Rattle.routine_reader.specs.Scripts.{PlainDevice, plain_device, plain_routine, plain_script, plain_window}
-use Rattle.routine_reader.specs.declared.scripts.DeviceText.{DeviceText}
-use Rattle.routine_reader.specs.declared.scripts.RoutineText.{RoutineText}
-use Rattle.routine_reader.specs.declared.scripts.WindowText.{WindowText}
-use Rattle.routine_reader.specs.Sound.{AreDifferent, IsSound, IsSoundDevice}
-use Rattle.routine_reader.specs.declared.scripts.Script.{Script}
-use Rattle.std.proofs.Common.{All, Bool, List, [], ap, arith, false, get_or, inl, inr, length, map, refl, subst, sym, take, true, true≢false, ℕ, ◌<◌, ◌∙◌, ◌≡◌, ◌⊎◌}
-use Rattle.std.proofs.lemmas.Bool.{cases_order}
 use Rattle.std.proofs.lemmas.List.Folds.{list_any_none}
-use Rattle.std.proofs.lemmas.List.{get_or-map, get_or-take, get_or_default, length-map, length-take}
-use Rattle.std.proofs.lemmas.Option.{get_or_from_slice_get, slice_get-get_or, slice_get_within}
 use Rattle.std.proofs.lemmas.Slice.Eq.{bytes_eq-Decides}
-use Rattle.std.specs.Prelude.{slice_index_or, ◌==◌}
-use Rattle.std.specs.Str.{bytes_eq}
 
 -- names that are different have one place each
 

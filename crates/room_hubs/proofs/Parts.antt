@@ -1,18 +1,6 @@
 -- Where no run crosses rooms, the rooms of a window part the home.
-use Rattle.command_rules.specs.Rosters.{Run, commands_of}
-use Rattle.home_types.specs.declared.commands.Command.{Command}
-use Rattle.home_types.specs.declared.worlds.Stand.{Stand}
-use Rattle.room_hubs.specs.Merges.{PartHome}
-use Rattle.room_hubs.specs.Numbers.{IsOwnRun, Room, home_command, home_run, own_command, own_run, place_in}
-use Rattle.room_hubs.specs.Splits.{IsParted, crosses, crosses_rooms, device_room, devices_in, follows_across, room_at, run_room, run_with, runs_in}
-use Rattle.std.proofs.Common.{All, Bool, List, None, Option, Some, [], ap, arith, cond, false, get_or, length, map, nat_lt, not, option_map, refl, subst, suc, sym, true, true≢false, zero, ℕ, ⊎_elim, ◌+◌, ◌<◌, ◌∙◌, ◌≡◌, ◌≢◌, ◌≤◌, ◌∷◌}
-use Rattle.std.proofs.lemmas.Bool.{cases_eq}
-use Rattle.std.proofs.lemmas.Grind.{common_steps}
+use Rattle.room_hubs.proofs.Prelude.{All, Bool, Command, IsOwnRun, IsParted, List, None, Option, PartHome, Room, Run, Some, Stand, [], ap, arith, cases_eq, commands_of, common_steps, cond, crosses, crosses_rooms, device_room, devices_in, false, filter, follows_across, get_or, get_or-map, home_command, home_run, if◌then◌else◌, length, length-map, list_any, map, nat_lt, not, option_map, own_command, own_run, place_in, position, position_or_len, range_with_len, refl, room_at, run_room, run_with, runs_in, slice_get-get_or, subst, suc, sym, true, true≢false, unwrap_or, zero, ℕ, ⊎_elim, ◌+◌, ◌<◌, ◌==◌, ◌||◌, ◌∙◌, ◌∷◌, ◌≡◌, ◌≢◌, ◌≤◌}
 use Rattle.std.proofs.lemmas.List.Sums.{fails_before_first}
-use Rattle.std.proofs.lemmas.List.{get_or-map, length-map}
-use Rattle.std.proofs.lemmas.Option.{slice_get-get_or}
-use Rattle.std.specs.List.{list_any, position, position_or_len, range_with_len}
-use Rattle.std.specs.Prelude.{filter, if◌then◌else◌, unwrap_or, ◌==◌, ◌||◌}
 
 equal : (a b : ℕ) → (a == b) ≡ true → a ≡ b
 equal a b e = grind (arith, common_steps)

@@ -1,25 +1,10 @@
 -- The script of a room says of its windows, kinds and start what the room has of those of the home.
-use Rattle.command_rules.specs.Rosters.{Run, commands_of}
+use Rattle.room_hubs.proofs.Prelude.{All, Bool, DeviceText, List, None, Option, RoutineText, Run, Script, Some, WindowText, [], ap, arith, commands_of, device_room, devices_at, devices_in, filter, get_or, get_or-map, get_or_default, kinds_of, length, length-map, map, no_device_text, no_run_text, nowhere, option_and_then, option_map, own_command, own_routine, own_run, own_run_no, own_run_text, own_runs, own_script, own_window, range_with_len, refl, room_at, room_home, room_kinds, rooms_of, routine_commands, run_of_text, run_room, run_with, runs_in, script_runs, slice_get, slice_get-get_or, slice_get-map, slice_index_or, start_home, start_stand, subst, suc, sym, unwrap_or, zero, ℕ, ◌+◌, ◌<◌, ◌==◌, ◌∙◌, ◌∷◌, ◌≡◌, ◌≤◌}
 use Rattle.room_hubs.proofs.Loops.{map_map}
 use Rattle.room_hubs.proofs.Parts.{filtered}
-use Rattle.home_types.specs.HomeStates.{nowhere}
 use Rattle.home_types.specs.declared.kinds.Kind.TheVariants.{States}
 use Rattle.room_hubs.proofs.SoundRuns.{rooms_size}
-use Rattle.room_hubs.specs.Numbers.{own_command, own_run, own_run_no, room_home, room_kinds}
-use Rattle.room_hubs.specs.RoomScripts.{devices_at, no_device_text, own_routine, own_run_text, own_script, own_window, no_run_text}
-use Rattle.room_hubs.specs.Rooms.{rooms_of}
-use Rattle.room_hubs.specs.Splits.{device_room, devices_in, own_runs, room_at, run_room, run_with, runs_in}
-use Rattle.routine_reader.specs.Rosters.{kinds_of, routine_commands, run_of_text, script_runs, start_home, start_stand}
-use Rattle.routine_reader.specs.declared.scripts.DeviceText.{DeviceText}
-use Rattle.routine_reader.specs.declared.scripts.RoutineText.{RoutineText}
 use Rattle.routine_reader.specs.declared.scripts.RunText.{RunText}
-use Rattle.routine_reader.specs.declared.scripts.Script.{Script}
-use Rattle.routine_reader.specs.declared.scripts.WindowText.{WindowText}
-use Rattle.std.proofs.Common.{Bool, List, None, Option, Some, [], ap, arith, get_or, length, map, option_map, refl, subst, suc, sym, zero, ℕ, ◌+◌, ◌<◌, ◌≤◌, ◌∙◌, ◌≡◌, ◌∷◌}
-use Rattle.std.proofs.lemmas.List.{get_or-map, get_or_default, length-map}
-use Rattle.std.proofs.lemmas.Option.{slice_get-get_or, slice_get-map}
-use Rattle.std.specs.List.{range_with_len}
-use Rattle.std.specs.Prelude.{All, filter, option_and_then, slice_get, slice_index_or, unwrap_or, ◌==◌}
 
 -- maps that agree at each item
 pub map_same : {X Y : Type 0} (f g : X → Y) (xs : List X) → All (λ x. f x ≡ g x) xs → map f xs ≡ map g xs

@@ -1,26 +1,8 @@
 -- How many rooms, devices and runs there are.
-use Rattle.command_rules.specs.Rosters.{Run, commands_of, plain_run}
-use Rattle.command_rules.specs.declared.rosters.RosterRun.{RosterRun}
-use Rattle.home_types.specs.Limits.{most_devices, most_runs}
-use Rattle.home_types.specs.declared.numbers.DeviceNo.{DeviceNo}
-use Rattle.home_types.specs.declared.numbers.RunNo.{RunNo}
+use Rattle.room_hubs.proofs.Prelude.{All, Bool, DeviceNo, IsSound, IsSoundWindow, List, Option, PlainRooms, RosterRun, Run, RunNo, Script, Some, WindowText, [], ap, arith, bytes_eq, commands_of, device_room, devices_in, fold, get_or, get_or-map, inl, inr, length, length-append, length-map, map, most_devices, most_runs, no_rooms, numbers_of_devices, numbers_of_runs, option_and_then, option_map, plain_device, plain_routine, plain_run, plain_script, plain_window, position_or_len, room_name, rooms_of, run_of_text, run_room, run_with, runs_in, script_runs, slice_get, slice_get-get_or, slice_get_cases, subst, suc, sym, unwrap_or, with_device, zero, ℕ, ◌+◌, ◌-◌, ◌<◌, ◌==◌, ◌∙◌, ◌∷◌, ◌≡◌, ◌≤◌}
 use Rattle.room_hubs.proofs.Names.{names_few}
 use Rattle.room_hubs.proofs.Parts.{Filtered, filtered}
-use Rattle.room_hubs.specs.Numbers.{numbers_of_devices, numbers_of_runs}
-use Rattle.room_hubs.specs.Rooms.{PlainRooms, no_rooms, room_name, rooms_of, with_device}
-use Rattle.room_hubs.specs.Splits.{device_room, devices_in, run_room, run_with, runs_in}
 use Rattle.routine_reader.proofs.Cited.{runs-there}
-use Rattle.routine_reader.specs.Rosters.{run_of_text, script_runs}
-use Rattle.routine_reader.specs.Scripts.{plain_device, plain_routine, plain_script, plain_window}
-use Rattle.routine_reader.specs.Sound.{IsSound, IsSoundWindow}
-use Rattle.routine_reader.specs.declared.scripts.Script.{Script}
-use Rattle.routine_reader.specs.declared.scripts.WindowText.{WindowText}
-use Rattle.std.proofs.Common.{All, Bool, List, Option, Some, [], ap, arith, fold, get_or, inl, inr, length, map, option_map, subst, suc, sym, zero, ℕ, ◌+◌, ◌-◌, ◌<◌, ◌∙◌, ◌≡◌, ◌≤◌, ◌∷◌}
-use Rattle.std.proofs.lemmas.List.{get_or-map, length-append, length-map}
-use Rattle.std.proofs.lemmas.Option.{slice_get-get_or, slice_get_cases}
-use Rattle.std.specs.List.{position_or_len}
-use Rattle.std.specs.Prelude.{option_and_then, slice_get, unwrap_or, ◌==◌}
-use Rattle.std.specs.Str.{bytes_eq}
 
 sizes_from : (start : PlainRooms) (rooms : List (List ℕ))
     → (length (fold with_device start rooms).names ≤ length start.names + length rooms) × (length (fold with_device start rooms).room_of ≡ length start.room_of + length rooms)

@@ -1,28 +1,7 @@
 -- The runs of a window of a sound script have their commands on devices of the home, and where the window is split none crosses rooms.
-use Rattle.command_rules.specs.Rosters.{Run, commands_of, followed_by}
-use Rattle.home_types.specs.Kinds.{kind_at}
-use Rattle.home_types.specs.Limits.{most_commands}
-use Rattle.home_types.specs.declared.numbers.RunNo.{RunNo}
-use Rattle.home_types.specs.declared.commands.Command.{Command}
-use Rattle.room_hubs.specs.Numbers.{Room}
-use Rattle.room_hubs.specs.Rooms.{PlainRooms, no_rooms, room_name, rooms_of, with_device}
-use Rattle.room_hubs.specs.Splits.{IsParted, all_rooms, cross_at, crosses, script_split, window_split}
-use Rattle.routine_reader.specs.Rosters.{kinds_of, routine_commands, run_of_text, script_runs}
-use Rattle.routine_reader.specs.Scripts.{plain_device, plain_routine, plain_script, plain_window}
-use Rattle.routine_reader.specs.Sound.{IsSound, IsSoundCommand, IsSoundRoutine, IsSoundRun, IsSoundWindow, device_kinds, suits_device}
-use Rattle.routine_reader.specs.declared.scripts.DeviceText.{DeviceText}
-use Rattle.routine_reader.specs.declared.scripts.RoutineText.{RoutineText}
+use Rattle.room_hubs.proofs.Prelude.{All, All-get_or, Command, DeviceText, Err, IfSome, IsParted, IsSound, IsSoundCommand, IsSoundRoutine, IsSoundRun, IsSoundWindow, List, None, Ok, Option, PlainRooms, Room, RoutineText, Run, RunNo, Script, Some, WindowText, [], all_rooms, ap, arith, bytes_eq, commands_of, cross_at, crosses, device_kinds, fold, followed_by, get_or, get_or_from_slice_get, kind_at, kinds_of, length, length-append, length-map, map, most_commands, no_rooms, option_and_then, option_map, plain_device, plain_routine, plain_script, plain_window, position, position_or_len, refl, room_name, rooms_of, routine_commands, run_of_text, script_runs, script_split, slice_get, slice_get-get_or, slice_get-map, slice_get_within, subst, suc, suits_device, sym, true, unwrap_or, window_split, with_device, zero, ℕ, ◌+◌, ◌<◌, ◌∙◌, ◌∷◌, ◌≡◌, ◌≤◌}
 use Rattle.routine_reader.specs.declared.scripts.RunText.{RunText}
-use Rattle.routine_reader.specs.declared.scripts.Script.{Script}
-use Rattle.routine_reader.specs.declared.scripts.WindowText.{WindowText}
-use Rattle.std.proofs.Common.{List, None, Ok, Err, Option, Some, [], ap, arith, fold, get_or, length, map, true, option_map, refl, subst, suc, sym, zero, ℕ, ◌+◌, ◌<◌, ◌∙◌, ◌≡◌, ◌≤◌, ◌∷◌}
-use Rattle.std.proofs.lemmas.List.Elements.{All-get_or}
-use Rattle.std.proofs.lemmas.List.{length-append, length-map}
-use Rattle.std.proofs.lemmas.Option.{get_or_from_slice_get, slice_get-get_or, slice_get-map, slice_get_within}
-use Rattle.std.specs.List.{position, position_or_len}
 use Rattle.std.specs.Option.{option_map_or}
-use Rattle.std.specs.Prelude.{All, IfSome, option_and_then, slice_get, unwrap_or}
-use Rattle.std.specs.Str.{bytes_eq}
 
 same_kinds : (devices : List DeviceText) → device_kinds (map plain_device devices) ≡ map (λ d. d.kind) devices
 same_kinds [] = refl

@@ -1,17 +1,7 @@
 -- A routine does to the home what it does to its room.
 use Rattle.home_types.specs.Commands.{Effect, Execution, command_effect, execute, fails, with_effect}
-use Rattle.home_types.specs.HomeStates.{nowhere, stand_at}
-use Rattle.home_types.specs.Kinds.{kind_at}
-use Rattle.home_types.specs.declared.commands.Command.{Command}
+use Rattle.room_hubs.proofs.Prelude.{All, Command, IsOwnDevice, Kind, List, Room, Stand, [], ap, arith, cases_eq, fold, get_or-map, get_or-set_at, get_or-set_other, home_command, home_device, kind_at, length, length-set, map, nowhere, refl, room_home, room_kinds, set, stand_at, subst, suc, sym, ℕ, ⊎_elim, ◌++◌, ◌<◌, ◌||◌, ◌∙◌, ◌∷◌, ◌≡◌, ◌≢◌}
 use Rattle.home_types.specs.declared.kinds.Kind.TheVariants.{States}
-use Rattle.home_types.specs.declared.kinds.Kind.{Kind}
-use Rattle.home_types.specs.declared.worlds.Stand.{Stand}
-use Rattle.room_hubs.specs.Numbers.{IsOwnDevice, Room, home_command, home_device, room_home, room_kinds}
-use Rattle.std.proofs.Common.{All, List, [], ap, arith, fold, length, map, refl, set, subst, suc, sym, ℕ, ⊎_elim, ◌++◌, ◌<◌, ◌∙◌, ◌≡◌, ◌≢◌, ◌∷◌}
-use Rattle.std.proofs.lemmas.Bool.{cases_eq}
-use Rattle.std.proofs.lemmas.Grind.{get_or-set_at}
-use Rattle.std.proofs.lemmas.List.{get_or-map, get_or-set_other, length-set}
-use Rattle.std.specs.Prelude.{◌||◌}
 
 -- what the room has of the home is the home's at its devices
 pub kind_in_room : (room : Room) (kinds : List Kind) (a : ℕ) → IsOwnDevice room a → kind_at (room_kinds room kinds) a ≡ kind_at kinds (home_device room a)

@@ -1,32 +1,14 @@
 -- A device that is read is one that the format allows.
 use Rattle.home_types.specs.Kinds.{has_value}
-use Rattle.home_types.specs.Limits.{most_downs}
+use Rattle.routine_reader.proofs.Prelude.{All, All-nil, BadName, BadState, Bool, Data, DeviceMembers, DeviceValues, DoubleName, Err, IsName, IsSoundDevice, IsSoundDown, IsSoundKind, Kind, List, None, Ok, Option, PlainDevice, Shape, Some, [], arith, as_number, as_str, as_u64, at, at_most, bytes_eq, codes, device_members, device_reading, device_values, device_with, down_in, down_reading, down_within, downs_reading, false, get, has_form, has_states_or_range, if_there, if◌then◌else◌, inside, is_among, is_name, items_in, length, most_downs, most_of_32_bits, nat_le, nat_lt, needed, new_name, next_down, none-some, number_of, ok_or, option_and_then, option_map_or, or_default, place_of, range_with, read_each, refl, rules, state_name, state_names, state_of, states_with, subst, suc, true, value_in, value_within, within_limit, zero, ℕ, ◌&&◌, ◌+◌, ◌<◌, ◌==◌, ◌>>=◌, ◌∷◌, ◌≡◌, ◌≤◌}
 use Rattle.home_types.specs.declared.kinds.Kind.TheVariants.{Range, States}
-use Rattle.home_types.specs.declared.kinds.Kind.{Kind}
 use Rattle.routine_reader.proofs.PrefixLemmas.{each-none}
 use Rattle.routine_reader.proofs.WalkSound.{each-after, each-all, each-length, ok-found, ok-if, ok-same, ok-then, ok-unless, ok-within}
-use Rattle.routine_reader.specs.Devices.{DeviceMembers, DeviceValues, device_members, device_reading, device_values, device_with, down_in, down_reading, down_within, downs_reading, has_states_or_range, next_down, range_with, state_name, state_names, states_with, value_in, value_within}
-use Rattle.routine_reader.specs.Forms.{at_most, has_form, if_there, items_in, needed, number_of, or_default, state_of}
-use Rattle.routine_reader.specs.Limits.{most_of_32_bits}
-use Rattle.routine_reader.specs.Names.{is_among, is_name, new_name, place_of}
-use Rattle.routine_reader.specs.Scripts.{PlainDevice}
-use Rattle.routine_reader.specs.Sound.{IsName, IsSoundDevice, IsSoundDown, IsSoundKind}
-use Rattle.routine_reader.specs.Spots.{at, inside}
-use Rattle.routine_reader.specs.Walks.{read_each, within_limit, ◌>>=◌}
 use Rattle.routine_reader.specs.declared.faults.Count.TheVariants as count
 use Rattle.routine_reader.specs.declared.faults.Part.TheVariants as part
-use Rattle.routine_reader.specs.declared.faults.ReadFault.TheVariants.{BadName, BadState, DoubleName, Shape}
 use Rattle.routine_reader.specs.declared.faults.Spot.{Spot}
 use Rattle.routine_reader.specs.declared.forms.Form.TheVariants as form
-use Rattle.serde_json.specs.Data.{Data}
-use Rattle.serde_json.specs.Find.{as_number, as_str, as_u64, get}
-use Rattle.std.proofs.Common.{Bool, Err, List, None, Ok, Option, Some, [], arith, codes, false, if◌then◌else◌, length, nat_le, nat_lt, option_and_then, refl, rules, subst, suc, true, zero, ℕ, ◌&&◌, ◌+◌, ◌<◌, ◌==◌, ◌≡◌, ◌≤◌, ◌∷◌}
-use Rattle.std.proofs.lemmas.List.Elements.{All-nil}
 use Rattle.std.proofs.lemmas.List.Quantifiers.{position-Some}
-use Rattle.std.proofs.lemmas.Option.{none-some}
-use Rattle.std.specs.Option.{option_map_or}
-use Rattle.std.specs.Prelude.{All, ok_or}
-use Rattle.std.specs.Str.{bytes_eq}
 
 -- ---- what an answer tells
 

@@ -1,11 +1,7 @@
 -- Members and items of a value, as lists.
-use Rattle.routine_reader.specs.Forms.{knows, list_of, names_of}
+use Rattle.routine_reader.proofs.Prelude.{Data, List, String, [], ap, items_of, knows, list_all, list_of, map, members_view, names_of, refl, string_bytes, ◌&&◌, ◌∷◌, ◌≡◌}
 use Rattle.routine_reader.specs.declared.forms.Form.{Form}
-use Rattle.serde_json.specs.Data.{Data}
-use Rattle.serde_json.specs.View.{items_of, members_view}
 use Rattle.serde_json.specs.declared.value.Value.{Value}
-use Rattle.std.proofs.Common.{List, String, [], ap, map, refl, string_bytes, ◌&&◌, ◌≡◌, ◌∷◌}
-use Rattle.std.specs.List.{list_all}
 use Rattle.std.specs.declared.alloc.Global.{Global}
 
 pub items-list : (values : List Data) → list_of (items_of values) ≡ values

@@ -1,19 +1,10 @@
 -- What a walk over the members of a command keeps of them.
-use Rattle.routine_reader.specs.Commands.{command_form}
-use Rattle.routine_reader.specs.Forms.{knows, names_of}
-use Rattle.routine_reader.specs.GivenMembers.{given_in, with_member}
+use Rattle.routine_reader.proofs.Prelude.{Bool, Data, Entry, List, Members, Some, [], ap, bytes_eq, codes, command_form, false, get_member, get_member-put, get_member-put_other, given_in, if◌then◌else◌, knows, list_all, members_view, names_of, put, put_last, refl, string_bytes, string_cmp, subst, sym, true, true≢false, view, with_member, ℕ, ◌&&◌, ◌++◌, ◌==◌, ◌||◌, ◌∙◌, ◌∷◌, ◌≡◌}
 use Rattle.routine_reader.specs.declared.forms.Form.TheVariants.{Command, GuardedCommand}
 use Rattle.routine_reader.specs.declared.forms.Form.{Form}
-use Rattle.serde_json.proofs.Views.{Entry, get_member-put, get_member-put_other, put_last}
-use Rattle.serde_json.specs.Data.{Data, Members, put}
-use Rattle.serde_json.specs.Find.{get_member}
-use Rattle.serde_json.specs.View.{members_view, view}
-use Rattle.std.proofs.Common.{Bool, List, Some, [], ap, codes, false, if◌then◌else◌, refl, string_bytes, string_cmp, subst, sym, true, true≢false, ℕ, ◌&&◌, ◌++◌, ◌∙◌, ◌≡◌, ◌||◌, ◌∷◌, ◌==◌}
 use Rattle.std.proofs.lemmas.Slice.Eq.{bytes_eq-Decides}
 use Rattle.std.specs.List.Sorted.{IsStrictlySortedBy}
-use Rattle.std.specs.List.{list_all}
 use Rattle.std.specs.Map.{keys_of}
-use Rattle.std.specs.Str.{bytes_eq}
 
 -- what is found at a name behind a member that was put
 put-at : (name key : List ℕ) (value : Data) (members : Members) (same : Bool) → bytes_eq key name ≡ same

@@ -3,6 +3,7 @@ mod FormLemmas
 mod GivenLemmas
 mod NameLemmas
 mod PrefixLemmas
+mod Prelude
 mod ReadingLemmas
 mod RosterLemmas
 mod RoutineSound

@@ -1,7 +1,5 @@
 -- Places in a list that is made from another.
-use Rattle.std.proofs.Common.{Bool, List, None, Option, Some, [], ap, cond, length, map, nat_lt, not, refl, ℕ, ◌+◌, ◌||◌, ◌∙◌, ◌≡◌, ◌∷◌}
-use Rattle.std.proofs.lemmas.List.{length-map}
-use Rattle.std.specs.List.{list_any, position, position_or_len}
+use Rattle.routine_reader.proofs.Prelude.{Bool, List, None, Option, Some, [], ap, cond, length, length-map, list_any, map, nat_lt, not, position, position_or_len, refl, ℕ, ◌+◌, ◌||◌, ◌∙◌, ◌∷◌, ◌≡◌}
 
 position_or_len-map : {X Y : Type 0} (f : X → Y) (p : Y → Bool) (xs : List X)
     → position_or_len p (map f xs) ≡ position_or_len (λ x. p (f x)) xs

@@ -1,10 +1,5 @@
 -- Items one after another, each of which suits those before it.
-use Rattle.routine_reader.specs.Names.{is_among}
-use Rattle.routine_reader.specs.Sound.{AreDifferent}
-use Rattle.std.proofs.Common.{List, Some, [], ap, arith, false, inl, inr, length, map, option_map, refl, subst, suc, sym, zero, ℕ, ◌++◌, ◌≡◌, ◌≤◌, ◌∙◌, ◌∷◌, ◌⊎◌}
-use Rattle.std.proofs.lemmas.List.{take-append-le, take-map}
-use Rattle.std.proofs.lemmas.Option.{none-some, slice_get-map, slice_get_within}
-use Rattle.std.specs.Prelude.{None, Option, slice_get, take}
+use Rattle.routine_reader.proofs.Prelude.{AreDifferent, List, None, Option, Some, [], ap, arith, false, inl, inr, is_among, length, map, none-some, option_map, refl, slice_get, slice_get-map, slice_get_within, subst, suc, sym, take, take-append-le, take-map, zero, ℕ, ◌++◌, ◌∙◌, ◌∷◌, ◌≡◌, ◌≤◌, ◌⊎◌}
 
 -- P of each item and those before it
 abbrev pub EachAfter : {T : Type 0} → (List T → T → Type 0) → List T → Type 0

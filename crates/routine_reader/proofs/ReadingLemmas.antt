@@ -1,10 +1,7 @@
 -- What `serde_json` answers at any bytes.
-use Rattle.routine_reader.specs.Readings.{json_value_of}
-use Rattle.serde_json.specs.Data.{Data}
+use Rattle.routine_reader.proofs.Prelude.{Bool, Data, IsUtf8, List, None, Option, Some, false, if◌then◌else◌, is_utf8, json_value_of, refl, true, ℕ, ◌≡◌}
 use Rattle.serde_json.specs.Read.{read}
-use Rattle.std.proofs.Common.{Bool, IsUtf8, List, None, Option, Some, false, if◌then◌else◌, refl, true, ℕ, ◌≡◌}
 use Rattle.std.proofs.lemmas.Str.{IsUtf8-from_is_utf8, is_utf8-from_IsUtf8}
-use Rattle.std.specs.Str.{is_utf8}
 
 none_if : (b : Bool) (o : Option Data) → (b ≡ true → o ≡ None) → (if b then o else None) ≡ None
 none_if true o h = h refl

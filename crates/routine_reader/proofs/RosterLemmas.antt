@@ -1,16 +1,7 @@
 -- The runs of a window of a sound script, and its devices.
-use Rattle.home_types.specs.declared.kinds.Kind.{Kind}
-use Rattle.routine_reader.specs.Rosters.{kinds_of, run_of_text, script_runs}
-use Rattle.routine_reader.specs.Scripts.{plain_device, plain_routine, plain_script, plain_window}
-use Rattle.routine_reader.specs.Sound.{IsSound, IsSoundWindow}
-use Rattle.routine_reader.specs.declared.scripts.RunText.{RunText}
+use Rattle.routine_reader.proofs.Prelude.{All, All-get_or, IsSound, IsSoundWindow, Kind, List, RunText, Some, [], ap, arith, get_or, get_or_from_slice_get, kinds_of, length, length-map, map, map-append, option_map, plain_device, plain_routine, plain_script, plain_window, run_of_text, script_runs, slice_get, slice_get-get_or, slice_get-map, slice_get_within, subst, sym, take, take_all, take_more, unwrap_or, ℕ, ◌++◌, ◌+◌, ◌<◌, ◌∙◌, ◌∷◌, ◌≡◌, ◌≤◌}
 use Rattle.routine_reader.specs.declared.scripts.Script.{Script}
 use Rattle.routine_reader.specs.declared.scripts.WindowText.{WindowText}
-use Rattle.std.proofs.Common.{List, Some, [], ap, arith, get_or, length, map, option_map, subst, sym, take, ℕ, ◌++◌, ◌+◌, ◌<◌, ◌∙◌, ◌∷◌, ◌≡◌, ◌≤◌}
-use Rattle.std.proofs.lemmas.List.Elements.{All-get_or}
-use Rattle.std.proofs.lemmas.List.{length-map, map-append, take_all, take_more}
-use Rattle.std.proofs.lemmas.Option.{get_or_from_slice_get, slice_get-get_or, slice_get-map, slice_get_within}
-use Rattle.std.specs.Prelude.{All, slice_get, unwrap_or}
 
 -- one more run
 pub runs-more : (script : Script) (texts : List RunText) (i : ℕ) (d : RunText) → i < length texts

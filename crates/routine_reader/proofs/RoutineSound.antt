@@ -1,38 +1,18 @@
 -- A routine that is read is one that the format allows.
 use Rattle.home_types.specs.Kinds.{kind_at}
-use Rattle.home_types.specs.Limits.{most_commands}
+use Rattle.routine_reader.proofs.Prelude.{All, All-head, All-nil, All-tail, BadState, Bool, CommandMembers, Data, IsSoundCommand, IsSoundDevice, IsSoundKind, IsSoundRoutine, Kind, List, None, Ok, Option, PlainDevice, PlainRoutine, Shape, Some, UnknownName, [], arith, as_bool, as_str, at, codes, command_form, command_members, command_reading, command_with, commands_reading, compared, device_kinds, device_names, false, get, guard_of, guard_with, has_form, if_there, inside, is_among, job_of, kind_of, length, length-map, most_commands, most_of_32_bits, ms_at, needed, new_name, next_command_read, none-some, number_of, ok_or, option_and_then, option_map, option_map_or, or_default, place_of, present, read_each, refl, routine_members, routine_reading, state_names_of, state_of, subst, suc, suits_device, suits_verb, takes_at, true, value_in, verb_in, with_its_value, within_limit, zero, ℕ, ◌+◌, ◌<◌, ◌==◌, ◌>>=◌, ◌∷◌, ◌≡◌, ◌≤◌}
 use Rattle.home_types.specs.declared.commands.Command.{Command}
 use Rattle.home_types.specs.declared.commands.Guard.TheVariants.{Always, Below, Is}
 use Rattle.home_types.specs.declared.commands.Guard.{Guard}
 use Rattle.home_types.specs.declared.commands.Job.TheVariants as job
 use Rattle.home_types.specs.declared.commands.Job.{Job}
-use Rattle.home_types.specs.declared.kinds.Kind.{Kind}
 use Rattle.routine_reader.proofs.DeviceSound.{if-some, new-name, number-within, place-within, some-same, some-values, then-some, value-suits}
 use Rattle.routine_reader.proofs.WalkSound.{each-all, each-length, ok-found, ok-same, ok-then, ok-unless, ok-within}
-use Rattle.routine_reader.specs.Commands.{CommandMembers, command_form, command_members, command_reading, command_with, guard_of, guard_with, job_of, kind_of, ms_at, next_command_read, state_names_of, suits_verb, takes_at, verb_in, with_its_value}
-use Rattle.routine_reader.specs.Devices.{device_names, value_in}
-use Rattle.routine_reader.specs.Forms.{has_form, if_there, needed, number_of, or_default, present, state_of}
-use Rattle.routine_reader.specs.Limits.{most_of_32_bits}
-use Rattle.routine_reader.specs.Names.{is_among, new_name, place_of}
-use Rattle.routine_reader.specs.Routines.{commands_reading, routine_members, routine_reading}
-use Rattle.routine_reader.specs.Scripts.{PlainDevice, PlainRoutine}
-use Rattle.routine_reader.specs.Sound.{IsSoundCommand, IsSoundDevice, IsSoundKind, IsSoundRoutine, compared, device_kinds, suits_device}
-use Rattle.routine_reader.specs.Spots.{at, inside}
-use Rattle.routine_reader.specs.Walks.{read_each, within_limit, ◌>>=◌}
 use Rattle.routine_reader.specs.declared.commands.Verb.TheVariants.{Check, Load, Set, Store}
 use Rattle.routine_reader.specs.declared.commands.Verb.{Verb}
 use Rattle.routine_reader.specs.declared.faults.Count.TheVariants as count
 use Rattle.routine_reader.specs.declared.faults.Part.TheVariants as part
-use Rattle.routine_reader.specs.declared.faults.ReadFault.TheVariants.{BadState, Shape, UnknownName}
 use Rattle.routine_reader.specs.declared.forms.Form.TheVariants as form
-use Rattle.serde_json.specs.Data.{Data}
-use Rattle.serde_json.specs.Find.{as_bool, as_str, get}
-use Rattle.std.proofs.Common.{Bool, List, None, Ok, Option, Some, [], arith, codes, false, length, option_and_then, option_map, refl, subst, suc, true, zero, ℕ, ◌+◌, ◌<◌, ◌==◌, ◌≡◌, ◌≤◌, ◌∷◌}
-use Rattle.std.proofs.lemmas.List.Elements.{All-head, All-nil, All-tail}
-use Rattle.std.proofs.lemmas.List.{length-map}
-use Rattle.std.proofs.lemmas.Option.{none-some}
-use Rattle.std.specs.Option.{option_map_or}
-use Rattle.std.specs.Prelude.{All, ok_or}
 
 map-some : {T U : Type 0} (f : T → U) (o : Option T) (u : U) → option_map f o ≡ Some u → (t : T) × (o ≡ Some t) × (f t ≡ u)
 map-some f None u h = absurd (none-some u h)

@@ -1,26 +1,11 @@
 -- A script that is read is one that the format allows, where the times of its windows are times.
-use Rattle.day_clock.specs.Times.{IsCivilTime}
-use Rattle.home_types.specs.Limits.{most_devices, most_routines, most_windows}
+use Rattle.routine_reader.proofs.Prelude.{All, All-map, All-nil, AreInOrder, DayMembers, Err, IfOk, IsCivilTime, IsReading, IsSound, IsSoundDevice, IsSoundRoutine, IsSoundWindow, List, Ok, PlainDevice, PlainRoutine, PlainScript, PlainWindow, ReadFault, Result, Some, [], ap, arith, device_names, false, is_among, is_later, last_time, length, length-map, most_devices, most_routines, most_windows, next_device_read, next_routine, next_window_read, none-some, option_map, parts_reading, plain_script, plain_window, read_each, routine_names, slice_get, subst, suc, take, true, zero, ℕ, ◌+◌, ◌-◌, ◌∙◌, ◌∷◌, ◌≡◌, ◌≤◌}
 use Rattle.routine_reader.proofs.DeviceSound.{device-sound}
 use Rattle.routine_reader.proofs.PrefixLemmas.{EachAfter, different-names, each-none, length-before}
 use Rattle.routine_reader.proofs.RoutineSound.{routine-sound}
 use Rattle.routine_reader.proofs.WalkSound.{each-after, each-all, each-length, ok-same, ok-then}
 use Rattle.routine_reader.proofs.WindowSound.{window-sound}
-use Rattle.routine_reader.specs.Devices.{device_names, next_device_read}
-use Rattle.routine_reader.specs.Names.{is_among}
-use Rattle.routine_reader.specs.Readings.{DayMembers, parts_reading}
-use Rattle.routine_reader.specs.Routines.{next_routine, routine_names}
-use Rattle.routine_reader.specs.Scripts.{PlainDevice, PlainRoutine, PlainScript, PlainWindow, plain_script, plain_window}
-use Rattle.routine_reader.specs.Sound.{AreInOrder, IsSound, IsSoundDevice, IsSoundRoutine, IsSoundWindow}
-use Rattle.routine_reader.specs.Walks.{IsReading, read_each}
-use Rattle.routine_reader.specs.Windows.{is_later, last_time, next_window_read}
-use Rattle.routine_reader.specs.declared.faults.ReadFault.{ReadFault}
 use Rattle.routine_reader.specs.declared.scripts.Script.{Script}
-use Rattle.std.proofs.Common.{Err, List, Ok, Result, Some, [], ap, arith, false, length, option_map, subst, suc, true, zero, ℕ, ◌+◌, ◌-◌, ◌∙◌, ◌≡◌, ◌≤◌, ◌∷◌}
-use Rattle.std.proofs.lemmas.List.Elements.{All-map, All-nil}
-use Rattle.std.proofs.lemmas.List.{length-map}
-use Rattle.std.proofs.lemmas.Option.{none-some}
-use Rattle.std.specs.Prelude.{All, IfOk, slice_get, take}
 
 last-taken : (windows : List PlainWindow) (k : ℕ) (window : PlainWindow) → slice_get windows k ≡ Some window
     → slice_get (take (suc k) windows) k ≡ Some window

@@ -1,12 +1,6 @@
 -- A walk over the values of a list, step by step.
-use Rattle.routine_reader.specs.Spots.{is_memory}
-use Rattle.routine_reader.specs.Walks.{IsReading, read_each, ◌>>=◌}
-use Rattle.routine_reader.specs.declared.faults.ReadFault.{ReadFault}
-use Rattle.serde_json.specs.Data.{Data}
-use Rattle.serde_json.specs.View.{view}
+use Rattle.routine_reader.proofs.Prelude.{Data, Err, IsReading, List, Ok, ReadFault, Result, [], ap, drop, drop_all, drop_more, false, get_or, is_memory, length, map, read_each, subst, sym, view, ℕ, ◌++◌, ◌+◌, ◌<◌, ◌>>=◌, ◌∙◌, ◌∷◌, ◌≡◌, ◌≤◌}
 use Rattle.serde_json.specs.declared.value.Value.{Value}
-use Rattle.std.proofs.Common.{Err, List, Ok, Result, [], ap, drop, false, get_or, length, map, subst, sym, ℕ, ◌+◌, ◌++◌, ◌<◌, ◌∙◌, ◌≡◌, ◌≤◌, ◌∷◌}
-use Rattle.std.proofs.lemmas.List.{drop_all, drop_more}
 use Rattle.std.specs.Result.{IsErrAnd}
 
 -- the value at i stands first among what is left

@@ -1,13 +1,7 @@
 -- What a walk that is not refused has read.
 use Rattle.routine_reader.proofs.PrefixLemmas.{EachAfter, each-more}
-use Rattle.routine_reader.specs.Limits.{limit_of}
-use Rattle.routine_reader.specs.Walks.{read_each, within_limit, ◌>>=◌}
+use Rattle.routine_reader.proofs.Prelude.{All, All-append, All-cons, All-nil, Bool, Data, Err, List, None, Ok, Option, ReadFault, Result, Some, [], arith, false, if◌then◌else◌, length, length-append, limit_of, nat_le, ok_or, read_each, refl, rules, subst, true, within_limit, ℕ, ◌++◌, ◌+◌, ◌>>=◌, ◌∷◌, ◌≡◌, ◌≤◌}
 use Rattle.routine_reader.specs.declared.faults.Count.{Count}
-use Rattle.routine_reader.specs.declared.faults.ReadFault.{ReadFault}
-use Rattle.serde_json.specs.Data.{Data}
-use Rattle.std.proofs.Common.{Bool, Err, List, None, Ok, Option, Result, Some, [], arith, false, if◌then◌else◌, length, length-append, nat_le, refl, rules, subst, true, ℕ, ◌+◌, ◌++◌, ◌≡◌, ◌≤◌, ◌∷◌}
-use Rattle.std.proofs.lemmas.List.Elements.{All-append, All-cons, All-nil}
-use Rattle.std.specs.Prelude.{All, ok_or}
 
 -- ---- one step
 

@@ -1,8 +1,5 @@
 -- The last of the windows.
-use Rattle.routine_reader.specs.Scripts.{PlainWindow}
-use Rattle.routine_reader.specs.Windows.{last_time}
-use Rattle.std.proofs.Common.{List, Some, [], ap, arith, length, length-append, option_map, refl, ◌-◌, ◌++◌, ◌∙◌, ◌≡◌, ◌∷◌}
-use Rattle.std.specs.Prelude.{slice_get}
+use Rattle.routine_reader.proofs.Prelude.{List, PlainWindow, Some, [], ap, arith, last_time, length, length-append, option_map, refl, slice_get, ◌++◌, ◌-◌, ◌∙◌, ◌∷◌, ◌≡◌}
 
 get-end : {X : Type 0} (xs : List X) (x : X) → slice_get (xs ++ x ∷ []) (length xs) ≡ Some x
 get-end [] x = refl

@@ -1,29 +1,14 @@
 -- A window that is read is one that the format allows, where its time is one.
-use Rattle.day_clock.specs.Times.{IsCivilTime, time_of}
+use Rattle.routine_reader.proofs.Prelude.{All, All-nil, BadFollow, BadTime, BadTurn, Data, IfSome, IsCivilTime, IsSoundRun, IsSoundWindow, List, None, Ok, Option, PlainWindow, RunText, Shape, Some, UnknownName, WindowMembers, [], arith, as_number, as_str, as_u64, at, at_most, codes, default_seed, follows_reading, get, has_form, inside, is_later, items_in, length, long_number_of, most_of_64_bits, nat_le, needed, next_run_read, next_turn, number_of, ok_or, option_and_then, or_default, place_of, read_each, run_members, run_reading, slice_get, subst, time_of, time_reading, true, turn_reading, window_members, window_reading, window_with, within_limit, ℕ, ◌&&◌, ◌+◌, ◌≡◌, ◌≤◌}
 use Rattle.day_clock.specs.declared.times.When.{When}
 use Rattle.home_types.specs.declared.numbers.RunNo.{RunNo}
 use Rattle.routine_reader.proofs.DeviceSound.{and-true, default-within, if-some, most-within, place-within, then-some, true-most}
 use Rattle.routine_reader.proofs.PrefixLemmas.{EachAfter, each-none, length-before}
 use Rattle.routine_reader.proofs.WalkSound.{each-after, each-all, each-length, ok-found, ok-if, ok-same, ok-then, ok-within}
-use Rattle.routine_reader.specs.Forms.{at_most, has_form, items_in, long_number_of, needed, number_of, or_default}
-use Rattle.routine_reader.specs.Limits.{default_seed, most_of_64_bits}
-use Rattle.routine_reader.specs.Names.{place_of}
-use Rattle.routine_reader.specs.Scripts.{PlainWindow}
-use Rattle.routine_reader.specs.Sound.{IsSoundRun, IsSoundWindow}
-use Rattle.routine_reader.specs.Spots.{at, inside}
-use Rattle.routine_reader.specs.Walks.{read_each, within_limit}
-use Rattle.routine_reader.specs.Windows.{WindowMembers, follows_reading, is_later, next_run_read, next_turn, run_members, run_reading, time_reading, turn_reading, window_members, window_reading, window_with}
 use Rattle.routine_reader.specs.declared.faults.Count.TheVariants as count
 use Rattle.routine_reader.specs.declared.faults.Part.TheVariants as part
-use Rattle.routine_reader.specs.declared.faults.ReadFault.TheVariants.{BadFollow, BadTime, BadTurn, Shape, UnknownName}
 use Rattle.routine_reader.specs.declared.faults.Spot.{Spot}
 use Rattle.routine_reader.specs.declared.forms.Form.TheVariants as form
-use Rattle.routine_reader.specs.declared.scripts.RunText.{RunText}
-use Rattle.serde_json.specs.Data.{Data}
-use Rattle.serde_json.specs.Find.{as_number, as_str, as_u64, get}
-use Rattle.std.proofs.Common.{List, None, Ok, Option, Some, [], arith, codes, length, nat_le, option_and_then, subst, true, ℕ, ◌&&◌, ◌+◌, ◌≡◌, ◌≤◌}
-use Rattle.std.proofs.lemmas.List.Elements.{All-nil}
-use Rattle.std.specs.Prelude.{All, IfSome, ok_or, slice_get}
 
 -- ---- its members
 

@@ -1,2 +1,3 @@
 mod OneLamp
+mod Prelude
 mod Unsealed

@@ -1,12 +1,9 @@
 -- A home with a lamp, which is on.
-use Rattle.home_journal.specs.Journals.{IsStateOf}
+use Rattle.rule_tests.proofs.Prelude.{IsStateOf, Kind, List, [], arith, refl, subst, suc, sym, true, zero, ℕ, ◌<◌, ◌∷◌, ◌≡◌}
 use Rattle.home_types.specs.HomeStates.{stand_at}
 use Rattle.home_types.specs.Kinds.{has_value, kind_at}
 use Rattle.home_types.specs.declared.kinds.Kind.TheVariants.{States}
-use Rattle.home_types.specs.declared.kinds.Kind.{Kind}
 use Rattle.home_types.specs.declared.worlds.Stand.{Stand}
-use Rattle.std.proofs.Common.{arith, refl, subst, suc, sym, zero}
-use Rattle.std.specs.Prelude.{List, [], true, ℕ, ◌<◌, ◌≡◌, ◌∷◌}
 
 abbrev pub lamp : List Kind
 lamp = States 2 ∷ []

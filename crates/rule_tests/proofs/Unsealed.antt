@@ -1,11 +1,9 @@
 -- Of a line of which nothing is sealed no item is.
 use Rattle.home_types.specs.declared.items.Item.TheVariants.{Ran}
-use Rattle.lineage_table.specs.declared.accesses.Access.{Access}
+use Rattle.rule_tests.proofs.Prelude.{Access, List, [], ap, false, refl, take, ◌||◌, ◌∷◌, ◌≡◌}
 use Rattle.serial_line.specs.Labels.{is_sealed}
 use Rattle.serial_line.specs.Marks.{Marked, stands}
-use Rattle.std.proofs.Common.{ap, refl}
 use Rattle.std.specs.List.{list_any}
-use Rattle.std.specs.Prelude.{List, [], false, take, ◌||◌, ◌∷◌, ◌≡◌}
 
 pub none_sealed : (line : Marked) → line.sealed ≡ 0 → (xs : List Access) → list_any (λ x. is_sealed (Ran x.run) line) xs ≡ false
 none_sealed line none [] = refl

@@ -1,36 +1,13 @@
 -- An actor makes its grip's call and gives the grip back: what its player is after it.
-use Rattle.device_gate.specs.Grips.{Gripped}
-use Rattle.device_gate.specs.declared.gates.Place.TheVariants.{Home}
-use Rattle.device_gate.specs.declared.grips.Done.{Done}
-use Rattle.device_gate.specs.declared.grips.Ready.{Ready}
-use Rattle.device_gate.specs.declared.slips.Slip.{Slip}
+use Rattle.run_replay.proofs.Prelude.{Commands, Configuration, Done, Entry, Gripped, HavePlans, Home, IsStepped, List, Made, None, OpenHub, Option, Plan, PlayerIsKept, PlayerState, Probes, Purpose, Ready, SameWindow, Shown, Slip, Some, Undoes, after_give, ap, arith, at_moment, carried_by, carried_in, common_steps, configuration_of, false, gave_back, get_or, give_entries, grip_in, grip_takes, hub_state_of, is_command, is_ended, is_full, is_undo, length, length_with, max, most_made, never_refused, play_of, point_of, progress_at, read_of, refl, slice_get, slice_get_read, slice_get_within, slice_set, steps_left, subst, suc, sym, takes_of, true, zero, ℕ, ◌+◌, ◌<◌, ◌==◌, ◌^◌, ◌||◌, ◌∙◌, ◌≡◌, ◌≤◌}
 use Rattle.device_gate.specs.declared.strangers.Stranger.{Stranger}
-use Rattle.device_states.specs.Devices.{Plan, Shown}
-use Rattle.history_book.specs.declared.entries.Entry.{Entry}
-use Rattle.hub_core.proofs.Cited.{gave_back, length_with, never_refused}
-use Rattle.hub_core.specs.HubCalls.{SameWindow, carried_by, grip_takes}
 use Rattle.hub_core.specs.HubSteps.{Gave, Give, HubStep, Refused, Returned}
-use Rattle.hub_core.specs.OpenHubs.{OpenHub, carried_in, configuration_of, hub_state_of}
-use Rattle.window_devices.specs.KnownDevices.{grip_in, progress_at}
-use Rattle.hub_core.specs.Steps.{after_give, at_moment, give_entries}
-use Rattle.lock_leasing.specs.Configurations.{Configuration, is_command, is_undo, point_of, read_of}
 use Rattle.lock_leasing.specs.Places.{GripsFit}
 use Rattle.run_replay.proofs.Holding.{Gives, gives_keeps, gives_plans}
 use Rattle.run_replay.proofs.Making.{give_makes}
 use Rattle.run_replay.proofs.Picking.{acted_is_stepped, full_is, met}
 use Rattle.run_replay.proofs.Stepping.{gave_fewer}
 use Rattle.run_replay.proofs.Taking.{stays_by}
-use Rattle.run_replay.specs.Players.{HavePlans, PlayerIsKept, PlayerState, is_ended, is_full, most_made, play_of, steps_left}
-use Rattle.run_replay.specs.Playing.{IsStepped}
-use Rattle.run_replay.specs.Replays.{takes_of}
-use Rattle.run_replay.specs.declared.picked.Picked.TheVariants.{Made}
-use Rattle.std.proofs.Common.{ap, arith, refl, subst, sym, ◌∙◌}
-use Rattle.std.proofs.lemmas.Grind.{common_steps}
-use Rattle.std.proofs.lemmas.Option.{slice_get_read, slice_get_within}
-use Rattle.std.proofs.Math.ListN.{get_or}
-use Rattle.std.specs.Prelude.{List, None, Option, Some, false, length, max, slice_get, slice_set, suc, true, zero, ℕ, ◌+◌, ◌<◌, ◌==◌, ◌^◌, ◌||◌, ◌≡◌, ◌≤◌}
-use Rattle.lock_leasing.specs.declared.purposes.Purpose.TheVariants.{Commands, Probes, Undoes}
-use Rattle.lock_leasing.specs.declared.purposes.Purpose.{Purpose}
 
 -- a run's grip was done, and is given back
 pub record IsDone {D : Type 0} (s : PlayerState D) (a : ℕ) (grip : Gripped D Ready) (done : Gripped D Done) : Type 0 where

@@ -1,21 +1,5 @@
 -- The replay of the case down-at-end: given what its devices told, it is the history that was worked out for it.
-use Rattle.command_rules.specs.Rosters.{device_no, run_no}
-use Rattle.history_book.specs.Gaps.{split_of}
-use Rattle.history_book.specs.Settings.{Setting}
-use Rattle.history_book.specs.declared.entries.Cause.TheVariants.{DownAtEnd}
-use Rattle.history_book.specs.declared.entries.End.TheVariants.{Aborted}
-use Rattle.history_book.specs.declared.entries.Entry.TheVariants.{Arrived, Did, Doomed, Ended, Fell, Placed, Undid}
-use Rattle.home_types.specs.declared.commands.Answer.TheVariants.{Fine}
-use Rattle.home_types.specs.declared.commands.Guard.TheVariants.{Always}
-use Rattle.home_types.specs.declared.commands.Job.TheVariants.{Set}
-use Rattle.home_types.specs.declared.kinds.Kind.TheVariants.{Range, States}
-use Rattle.home_types.specs.declared.modes.Scheduler.TheVariants.{Fcfs}
-use Rattle.home_types.specs.declared.modes.Visibility.TheVariants.{Partitioned}
-use Rattle.device_gate.specs.declared.slips.Told.{Told}
-use Rattle.device_gate.specs.declared.slips.Told.TheVariants.{Died, Worked}
-use Rattle.run_replay.specs.Replays.{actors, replay_of}
-use Rattle.std.proofs.Common.{refl}
-use Rattle.std.specs.Prelude.{List, None, [], false, slice_index_or, true, ◌∷◌, ◌≡◌}
+use Rattle.run_replay.proofs.Prelude.{Aborted, Always, Arrived, Did, Died, Doomed, DownAtEnd, Ended, Fcfs, Fell, Fine, List, None, Partitioned, Placed, Range, Set, Setting, States, Told, Undid, Worked, [], actors, device_no, false, refl, replay_of, run_no, slice_index_or, split_of, true, ◌∷◌, ◌≡◌}
 
 abbrev pub setting0 : Setting
 setting0 = record {

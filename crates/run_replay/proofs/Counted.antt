@@ -1,13 +1,7 @@
 -- A pick that moved is counted, and no more are counted than steps were taken.
-use Rattle.hub_core.specs.HubCalls.{SameWindow}
+use Rattle.run_replay.proofs.Prelude.{HoldNothing, IsPicked, IsStepped, List, Made, MovesAreFew, None, Option, Passed, Picked, PlayerIsKept, PlayerStands, PlayerState, SameWindow, Some, Took, [], ap, arith, drop, empty_places, false, first_is_full, is_ended, is_waiting_pick, length, most_made, most_moves, moves_after, mul-le-mul, play_of, refl, steps_left, subst, sym, true, with_moves, ℕ, ◌*◌, ◌+◌, ◌-◌, ◌<◌, ◌^◌, ◌∙◌, ◌∷◌, ◌≡◌, ◌≤◌}
 use Rattle.run_replay.proofs.Picking.{ended_is, stepped_is_picked}
-use Rattle.run_replay.specs.Players.{HoldNothing, MovesAreFew, PlayerIsKept, PlayerStands, PlayerState, empty_places, first_is_full, is_ended, most_made, most_moves, play_of, steps_left, with_moves}
-use Rattle.run_replay.specs.Playing.{IsPicked, IsStepped}
-use Rattle.run_replay.specs.Replays.{is_waiting_pick, moves_after}
-use Rattle.run_replay.specs.declared.picked.Picked.TheVariants.{Made, Passed, Took, Waits as Waited}
-use Rattle.run_replay.specs.declared.picked.Picked.{Picked}
-use Rattle.std.proofs.Common.{ap, arith, mul-le-mul, refl, subst, sym, ◌∙◌}
-use Rattle.std.specs.Prelude.{List, None, Option, Some, [], drop, false, length, true, ℕ, ◌*◌, ◌+◌, ◌-◌, ◌<◌, ◌^◌, ◌∷◌, ◌≡◌, ◌≤◌}
+use Rattle.run_replay.specs.declared.picked.Picked.TheVariants.{Waits as Waited}
 
 -- what is kept of a player does not ask how many picks moved
 pub moves_kept : {D : Type 0} (moves : ℕ) (s : PlayerState D) → PlayerIsKept s → PlayerIsKept (with_moves moves s)

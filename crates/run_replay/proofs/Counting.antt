@@ -1,8 +1,5 @@
 -- Numbers of a range that pass a test, looked at one after another.
-use Rattle.std.proofs.Common.{ap, arith, refl, sym, ◌∙◌}
-use Rattle.std.proofs.lemmas.List.{append-nil}
-use Rattle.std.specs.List.{range_with_len}
-use Rattle.std.specs.Prelude.{Bool, List, Some, [], false, filter, if◌then◌else◌, slice_get, suc, true, zero, ℕ, ◌++◌, ◌+◌, ◌<◌, ◌∷◌, ◌≡◌}
+use Rattle.run_replay.proofs.Prelude.{Bool, List, Some, [], ap, append-nil, arith, false, filter, if◌then◌else◌, range_with_len, refl, slice_get, suc, sym, true, zero, ℕ, ◌++◌, ◌+◌, ◌<◌, ◌∙◌, ◌∷◌, ◌≡◌}
 
 -- one number more, that passes or not
 one_more : (p : ℕ → Bool) (from n : ℕ) → filter p (range_with_len from (suc n)) ≡ filter p (range_with_len from n) ++ (if p (from + n) then (from + n) ∷ [] else [])

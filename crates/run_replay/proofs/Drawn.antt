@@ -1,12 +1,7 @@
 -- Actors picked in turn until one does not wait, and draws.
 use Rattle.run_replay.proofs.Tellings.{draw_more, tells_back, tells_front}
 use Rattle.seeded_draws.specs.Draws.{below, drawn}
-use Rattle.run_replay.specs.Playing.{GoesOn, IsDrawn, IsFinished, IsPicked, IsTried, Tells}
-use Rattle.run_replay.specs.Replays.{Course, DrawnPlay, Pick, Play, actors, draw_once, from_place, is_waiting_pick, pick, pick_first}
-use Rattle.run_replay.specs.declared.picked.Picked.{Picked}
-use Rattle.std.proofs.Common.{ap, arith, refl, subst, sym, ◌∙◌}
-use Rattle.std.proofs.lemmas.List.{length-append}
-use Rattle.std.specs.Prelude.{Bool, List, [], false, length, suc, true, ℕ, ◌++◌, ◌<◌, ◌∷◌, ◌≡◌}
+use Rattle.run_replay.proofs.Prelude.{Bool, Course, DrawnPlay, GoesOn, IsDrawn, IsFinished, IsPicked, IsTried, List, Pick, Picked, Play, Tells, [], actors, ap, arith, draw_once, false, from_place, is_waiting_pick, length, length-append, pick, pick_first, refl, subst, suc, sym, true, ℕ, ◌++◌, ◌<◌, ◌∙◌, ◌∷◌, ◌≡◌}
 
 -- none has been picked
 pub none_tried : (rounds : ℕ) (all : List ℕ) (p : Play) → IsTried rounds all all p p

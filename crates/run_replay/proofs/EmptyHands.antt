@@ -1,9 +1,7 @@
 -- Where each device is home no hand holds a grip.
 use Rattle.device_gate.proofs.Cited.{none_out}
 use Rattle.device_gate.specs.Places.{all_home}
-use Rattle.run_replay.specs.Players.{HoldNothing, PlayerIsKept, PlayerState}
-use Rattle.std.proofs.Common.{ap, refl, sym, ◌∙◌}
-use Rattle.std.specs.Prelude.{List, None, Option, Some, [], slice_get, suc, zero, ◌++◌, ◌∷◌, ◌≡◌}
+use Rattle.run_replay.proofs.Prelude.{HoldNothing, List, None, Option, PlayerIsKept, PlayerState, Some, [], ap, refl, slice_get, suc, sym, zero, ◌++◌, ◌∙◌, ◌∷◌, ◌≡◌}
 
 no_hands : {A : Type 0} → HoldNothing {A = A} []
 no_hands a x at = absurd (cc)

@@ -1,28 +1,8 @@
 -- Where every actor has ended the hub is quiet, and no hand holds a grip.
-use Rattle.command_rules.specs.Rosters.{is_run}
-use Rattle.device_gate.specs.Grips.{Gripped}
-use Rattle.device_gate.specs.declared.gates.Place.TheVariants.{Home, Out}
-use Rattle.device_gate.specs.declared.gates.Place.{Place}
-use Rattle.device_gate.specs.declared.grips.Ready.{Ready}
-use Rattle.history_book.proofs.Cited.{Each}
-use Rattle.history_book.specs.Readings.{is_live}
-use Rattle.hub_core.proofs.Cited.{run_there}
-use Rattle.window_devices.proofs.Cited.{find_none, not_none}
-use Rattle.hub_core.specs.OpenHubs.{configuration_of}
-use Rattle.window_devices.specs.KnownDevices.{grip_in, progress_at}
-use Rattle.lock_leasing.specs.declared.purposes.Purpose.TheVariants.{Commands, Probes, Undoes}
-use Rattle.lock_leasing.specs.declared.purposes.Purpose.{Purpose}
-use Rattle.hub_core.specs.Steps.{not_quiet}
-use Rattle.lock_leasing.specs.Configurations.{Configuration, is_out, point_of, read_of}
+use Rattle.run_replay.proofs.Prelude.{Bool, Commands, Configuration, Each, Gripped, Home, IsTrue, None, Option, Out, Place, PlayerIsKept, PlayerState, Probes, Purpose, Ready, Some, Undoes, [], ap, are_live, arith, common_steps, configuration_of, false, filter, find, find_none, grip_in, is_ended, is_full, is_live, is_none, is_out, is_run, is_some, length, not, not_none, not_quiet, option_map, point_of, progress_at, range_with_len, read_of, refl, run_there, slice_get, slice_get_within, subst, suc, sym, true, unwrap_or, zero, ℕ, ◌&&◌, ◌<◌, ◌||◌, ◌∙◌, ◌≡◌}
 use Rattle.lock_leasing.specs.Places.{GripsFit}
 use Rattle.run_replay.proofs.Progress.{each_at}
 use Rattle.run_replay.proofs.Settings.{within}
-use Rattle.run_replay.specs.Players.{PlayerIsKept, PlayerState, are_live, is_ended, is_full}
-use Rattle.std.proofs.Common.{ap, arith, refl, subst, sym, ◌∙◌}
-use Rattle.std.proofs.lemmas.Grind.{common_steps}
-use Rattle.std.proofs.lemmas.Option.{slice_get_within}
-use Rattle.std.specs.List.{range_with_len}
-use Rattle.std.specs.Prelude.{Bool, IsTrue, None, Option, Some, [], false, filter, find, is_none, is_some, length, not, option_map, slice_get, suc, true, unwrap_or, zero, ℕ, ◌&&◌, ◌<◌, ◌||◌, ◌≡◌}
 
 -- each run has ended and no device is out
 pub quiet_where : (s : Configuration) → ((r : ℕ) → is_run s.setting.runs r ≡ true → is_some ((read_of s).run r).ended ≡ true) → ((d : ℕ) → s.grips d ≡ None) → not_quiet s ≡ None

@@ -2,11 +2,7 @@
 use Rattle.run_replay.proofs.Drawn.{drawn_more, finishes, none_drawn}
 use Rattle.run_replay.proofs.Living.{actors_are}
 use Rattle.seeded_draws.specs.Draws.{below, drawn}
-use Rattle.run_replay.specs.Players.{PlayerStands, PlayerState, are_live, play_of}
-use Rattle.run_replay.specs.Playing.{GoesOn, IsDrawn, IsFinished}
-use Rattle.run_replay.specs.Replays.{from_place, pick_first}
-use Rattle.std.proofs.Common.{ap, arith, refl, subst, sym, ◌∙◌}
-use Rattle.std.specs.Prelude.{List, [], length, suc, ℕ, ◌<◌, ◌∷◌, ◌≡◌}
+use Rattle.run_replay.proofs.Prelude.{GoesOn, IsDrawn, IsFinished, List, PlayerStands, PlayerState, [], ap, are_live, arith, from_place, length, pick_first, play_of, refl, subst, suc, sym, ℕ, ◌<◌, ◌∙◌, ◌∷◌, ◌≡◌}
 
 -- after some draws the generator is in this state, and so many actors have not ended
 pub record HaveDrawn {D : Type 0} (old now : PlayerState D) (seed state count : ℕ) : Type 0 where

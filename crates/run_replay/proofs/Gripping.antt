@@ -1,21 +1,6 @@
 -- Whose grip is out, as the configuration tells it and as the actors' hands do.
-use Rattle.device_gate.specs.Grips.{Gripped}
-use Rattle.device_gate.specs.declared.gates.Place.TheVariants.{Home, Out}
-use Rattle.device_gate.specs.declared.gates.Place.{Place}
-use Rattle.device_gate.specs.declared.grips.Ready.{Ready}
-use Rattle.device_gate.specs.declared.slips.Slip.{Slip}
-use Rattle.window_devices.proofs.Cited.{none_found}
-use Rattle.hub_core.specs.OpenHubs.{configuration_of}
-use Rattle.window_devices.specs.KnownDevices.{grip_in, progress_at}
-use Rattle.lock_leasing.specs.declared.purposes.Purpose.{Purpose}
-use Rattle.lock_leasing.specs.Configurations.{has_grip}
+use Rattle.run_replay.proofs.Prelude.{Bool, Gripped, Home, None, Option, Out, Place, PlayerIsKept, PlayerState, Purpose, Ready, Slip, Some, ap, arith, common_steps, configuration_of, false, grip_in, gripped, has_grip, length, none_found, option_map, play_of, progress_at, refl, slice_get, slice_get_within, sym, true, unwrap_or, ℕ, ◌+◌, ◌<◌, ◌==◌, ◌∙◌, ◌≡◌}
 use Rattle.run_replay.proofs.Settings.{find_only}
-use Rattle.run_replay.specs.Players.{PlayerIsKept, PlayerState, play_of}
-use Rattle.run_replay.specs.Replays.{gripped}
-use Rattle.std.proofs.Common.{ap, arith, refl, sym, ◌∙◌}
-use Rattle.std.proofs.lemmas.Grind.{common_steps}
-use Rattle.std.proofs.lemmas.Option.{slice_get_within}
-use Rattle.std.specs.Prelude.{Bool, None, Option, Some, false, length, option_map, slice_get, true, unwrap_or, ℕ, ◌+◌, ◌<◌, ◌==◌, ◌≡◌}
 
 -- the device in this place is out with a grip of the actor
 in_place : {D : Type 0} (o : Option (Place D)) (purpose : Purpose) (a : ℕ) → unwrap_or (option_map (λ p. p.maker == a) (grip_in o purpose)) false ≡ true → (slip : Slip) × (task : _) × (o ≡ Some (Out slip task)) × (slip.maker ≡ a)

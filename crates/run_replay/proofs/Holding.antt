@@ -1,17 +1,7 @@
 -- What actors hold: a grip taken, and a grip given back.
-use Rattle.device_gate.specs.Grips.{Gripped}
-use Rattle.device_gate.specs.declared.gates.Place.TheVariants.{Home, Out}
-use Rattle.device_gate.specs.declared.gates.Place.{Place}
-use Rattle.device_gate.specs.declared.grips.Ready.{Ready}
-use Rattle.device_gate.specs.declared.slips.Slip.{Slip}
+use Rattle.run_replay.proofs.Prelude.{Gripped, HavePlans, Home, IsInHand, None, Option, Out, Place, Plan, PlayerIsKept, PlayerState, Ready, Shown, Slip, Some, ap, get_set, inl, inr, length, refl, slice_get, slice_get_within, slice_set, subst, sym, ℕ, ◌*◌, ◌+◌, ◌<◌, ◌^◌, ◌∙◌, ◌≡◌, ◌≢◌, ◌≤◌, ◌⊎◌}
 use Rattle.device_gate.specs.declared.slips.Task.{Task}
-use Rattle.device_states.specs.Devices.{Plan, Shown}
-use Rattle.window_devices.proofs.Cited.{get_set}
 use Rattle.run_replay.proofs.Settings.{put_length, put_other_place, put_same_place}
-use Rattle.run_replay.specs.Players.{HavePlans, IsInHand, PlayerIsKept, PlayerState}
-use Rattle.std.proofs.Common.{ap, inl, inr, refl, subst, sym, ◌∙◌}
-use Rattle.std.proofs.lemmas.Option.{slice_get_within}
-use Rattle.std.specs.Prelude.{None, Option, Some, length, slice_get, slice_set, ℕ, ◌*◌, ◌+◌, ◌<◌, ◌^◌, ◌≡◌, ◌≢◌, ◌≤◌, ◌⊎◌}
 
 -- a device cannot be home and out
 home_or_out : {D : Type 0} (o : Option (Place D)) (device : D) (slip : Slip) (task : Task) → o ≡ Some (Home device) → o ≡ Some (Out slip task) → ⊥

@@ -1,38 +1,13 @@
 -- Which actors have ended after a step: those of before, and the run that was stepped where it has its end.
-use Rattle.device_gate.specs.Grips.{Gripped}
-use Rattle.device_gate.specs.declared.grips.Done.{Done}
-use Rattle.device_gate.specs.declared.grips.Ready.{Ready}
-use Rattle.device_gate.specs.declared.slips.Told.{Told}
-use Rattle.device_gate.specs.declared.slips.Told.TheVariants.{Died, Sensed, Worked}
-use Rattle.history_book.proofs.Cited.{entries_on, put_keeps, put_other, reading_on}
+use Rattle.run_replay.proofs.Prelude.{Absent, Arrived, Bool, Choice, Commands, Configuration, Did, Died, Done, Doomed, Ended, Entry, Fell, Found, Gripped, HandsOut, List, Lost, Moves, None, Option, Over, Placed, PlayerState, Probes, Purpose, Reading, Ready, Rose, SameWindow, Sensed, Setting, Some, Told, Undid, Undoes, Waits, Why, Worked, [], after_choice, after_give, after_take, ap, are_live, arith, at_moment, choice_of, command_at, common_steps, configuration_of, decide_is, device_no, did, entries_on, false, filter, fold, give_entries, if◌then◌else◌, is_doomed, is_ended, is_run, is_some, is_weak, length, nat_le, not, option_map, option_to_list, put_keeps, put_other, range_with_len, read_of, reading_on, refl, run_no, slice_get, slice_set, suc, sym, true, unwrap_or, zero, ℕ, ⊤, ◌&&◌, ◌*◌, ◌++◌, ◌<◌, ◌==◌, ◌||◌, ◌∙◌, ◌∷◌, ◌≡◌, ◌≢◌}
 use Rattle.history_book.specs.Histories.{entries_of, entry, kept_by, reading}
-use Rattle.history_book.specs.Readings.{Reading, did, is_doomed}
-use Rattle.history_book.specs.Settings.{Setting, is_weak}
-use Rattle.history_book.specs.declared.entries.Cause.TheVariants.{Lost}
 use Rattle.history_book.specs.declared.entries.Cause.{Cause}
-use Rattle.history_book.specs.declared.entries.Entry.TheVariants.{Arrived, Did, Doomed, Ended, Fell, Placed, Rose, Undid}
-use Rattle.history_book.specs.declared.entries.Entry.{Entry}
-use Rattle.hub_core.proofs.Cited.{decide_is}
-use Rattle.hub_core.specs.OpenHubs.{configuration_of}
-use Rattle.hub_core.specs.HubCalls.{SameWindow}
-use Rattle.hub_core.specs.Steps.{Absent, Choice, HandsOut, Moves, Over, Waits, after_choice, after_give, after_take, at_moment, choice_of, give_entries}
-use Rattle.hub_core.specs.declared.waits.Why.{Why}
 use Rattle.home_types.specs.Commands.{fails}
-use Rattle.home_types.specs.declared.commands.Answer.TheVariants.{Found}
-use Rattle.command_rules.specs.Rosters.{command_at, device_no, is_run, run_no}
-use Rattle.lock_leasing.specs.Configurations.{Configuration, read_of}
 use Rattle.lock_leasing.specs.Waits.{lost_by}
 use Rattle.run_replay.proofs.Acting.{IsGivenBack, entries_are, purpose_at}
 use Rattle.run_replay.proofs.Settings.{put_other_place}
 use Rattle.run_replay.proofs.Taking.{GoesToHand, IsAnswered, after, chosen, went_after}
-use Rattle.run_replay.specs.Players.{PlayerState, are_live, is_ended}
-use Rattle.std.proofs.Common.{ap, arith, refl, sym, ◌∙◌}
 use Rattle.std.proofs.lemmas.Bool.{eqb-false}
-use Rattle.std.proofs.lemmas.Grind.{common_steps}
-use Rattle.std.specs.List.{range_with_len}
-use Rattle.std.specs.Prelude.{Bool, List, None, Option, Some, [], false, filter, fold, if◌then◌else◌, is_some, length, nat_le, not, option_map, option_to_list, slice_get, slice_set, suc, true, unwrap_or, zero, ℕ, ⊤, ◌&&◌, ◌*◌, ◌++◌, ◌<◌, ◌==◌, ◌||◌, ◌∷◌, ◌≡◌, ◌≢◌}
-use Rattle.lock_leasing.specs.declared.purposes.Purpose.TheVariants.{Commands, Probes, Undoes}
-use Rattle.lock_leasing.specs.declared.purposes.Purpose.{Purpose}
 
 -- Entries that end at most one run
 

@@ -2,6 +2,7 @@ mod CaseDownAtEnd
 mod CaseLeaseOverdue
 mod CaseProbePassed
 mod CaseUndoDies
+mod Prelude
 mod Waiting
 mod Tellings
 mod Drawn

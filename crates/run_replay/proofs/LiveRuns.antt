@@ -1,18 +1,12 @@
 -- The runs that have not ended, as the bits of a word.
-use Rattle.command_rules.specs.Rosters.{is_run}
+use Rattle.run_replay.proofs.Prelude.{AreLiveRuns, Bool, List, PlayerIsKept, PlayerState, [], ap, arith, bit_and, bit_or, common_steps, configuration_of, false, inl, inr, is_ended, is_run, is_some, length, nat_lt, not, read_of, refl, slice_get, subst, suc, sym, true, zero, ℕ, ◌%◌, ◌&&◌, ◌+◌, ◌-◌, ◌/◌, ◌<◌, ◌==◌, ◌^◌, ◌||◌, ◌∙◌, ◌∷◌, ◌≡◌, ◌≢◌, ◌≤◌}
 use Rattle.blocked_runs.proofs.Cited.{has_either, has_nothing, has_without}
 use Rattle.blocked_runs.specs.RunBits.{has_run}
-use Rattle.hub_core.specs.OpenHubs.{configuration_of}
-use Rattle.lock_leasing.specs.Configurations.{read_of}
 use Rattle.run_replay.proofs.Settings.{at_or_past}
-use Rattle.run_replay.specs.Players.{AreLiveRuns, PlayerIsKept, PlayerState, is_ended}
-use Rattle.std.proofs.Common.{ap, arith, inl, inr, refl, subst, sym, ◌∙◌}
 use Rattle.std.proofs.lemmas.Bool.{eqb-false}
-use Rattle.std.proofs.lemmas.Grind.{common_steps}
 use Rattle.std.proofs.lemmas.Nat.Bits.{bit_at-trailing_zeros, bit_at-zero}
 use Rattle.std.proofs.lemmas.Nat.{shr-shr, shr_le}
 use Rattle.std.specs.Int.{bit_at, bit_not, trailing_zeros, w64}
-use Rattle.std.specs.Prelude.{Bool, List, [], bit_and, bit_or, false, is_some, length, nat_lt, not, slice_get, suc, true, zero, ℕ, ◌%◌, ◌&&◌, ◌+◌, ◌-◌, ◌/◌, ◌<◌, ◌==◌, ◌^◌, ◌||◌, ◌∷◌, ◌≡◌, ◌≢◌, ◌≤◌}
 
 -- One run more, and one less
 

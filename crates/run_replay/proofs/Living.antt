@@ -1,10 +1,6 @@
 -- The actors that have not ended, as the play tells them and as the hands do.
 use Rattle.run_replay.proofs.Picking.{ended_is}
-use Rattle.run_replay.specs.Players.{PlayerIsKept, PlayerState, are_live, is_ended, play_of}
-use Rattle.run_replay.specs.Replays.{Course, actors, is_actor_done}
-use Rattle.std.proofs.Common.{ap, refl, sym, ◌∙◌}
-use Rattle.std.specs.List.{range_with_len}
-use Rattle.std.specs.Prelude.{List, [], filter, length, not, ℕ, ◌+◌, ◌∷◌, ◌≡◌}
+use Rattle.run_replay.proofs.Prelude.{Course, List, PlayerIsKept, PlayerState, [], actors, ap, are_live, filter, is_actor_done, is_ended, length, not, play_of, range_with_len, refl, sym, ℕ, ◌+◌, ◌∙◌, ◌∷◌, ◌≡◌}
 
 -- the same actors
 pub actors_are : {D : Type 0} (course : Course) (s : PlayerState D) (acts : ℕ) → PlayerIsKept s → length s.hub.places ≡ length s.hub.setting.first → course.rounds ≡ s.rounds → actors course (play_of s acts) ≡ are_live s

@@ -1,15 +1,5 @@
 -- A step that is no wait and hands nothing out makes entries.
-use Rattle.history_book.specs.Readings.{Reading}
-use Rattle.history_book.specs.Settings.{Setting}
-use Rattle.hub_core.proofs.Cited.{decide_is}
-use Rattle.hub_core.specs.Steps.{Absent, Choice, HandsOut, Moves, Over, Waits, choice_of, give_entries}
-use Rattle.device_gate.specs.declared.slips.Told.{Told}
-use Rattle.device_gate.specs.declared.slips.Told.TheVariants.{Died, Sensed, Worked}
-use Rattle.lock_leasing.specs.Configurations.{Configuration, is_command, is_undo, read_of}
-use Rattle.lock_leasing.specs.declared.purposes.Purpose.TheVariants.{Commands, Probes, Undoes}
-use Rattle.lock_leasing.specs.declared.purposes.Purpose.{Purpose}
-use Rattle.std.proofs.Common.{arith, sym, ◌∙◌}
-use Rattle.std.specs.Prelude.{None, Some, length, true, ℕ, ⊤, ◌<◌, ◌||◌, ◌≡◌}
+use Rattle.run_replay.proofs.Prelude.{Absent, Choice, Commands, Configuration, Died, HandsOut, Moves, None, Over, Probes, Purpose, Reading, Sensed, Setting, Some, Told, Undoes, Waits, Worked, arith, choice_of, decide_is, give_entries, is_command, is_undo, length, read_of, sym, true, ℕ, ⊤, ◌<◌, ◌||◌, ◌∙◌, ◌≡◌}
 
 -- where entries are made there is one
 abbrev pub Makes : Choice → Type 0

@@ -1,18 +1,9 @@
 -- The actors from a place of the list on, by their numbers: one after another has ended, is known to wait, or is picked.
 use Rattle.hub_core.specs.BlockedRuns.{IsBlocked}
-use Rattle.hub_core.specs.OpenHubs.{configuration_of}
+use Rattle.run_replay.proofs.Prelude.{Bool, GoesOn, List, Picked, PlayerStands, PlayerState, Some, [], ap, append-nil, are_live, arith, common_steps, configuration_of, drop, false, filter, from_place, if◌then◌else◌, inl, inr, is_ended, is_waiting_pick, length, nat_lt, not, pick_first, play_of, range_with_len, refl, slice_get, steps_left, subst, suc, sym, take, true, zero, ℕ, ◌++◌, ◌+◌, ◌-◌, ◌<◌, ◌∙◌, ◌∷◌, ◌≡◌, ◌≤◌, ◌⊎◌}
 use Rattle.run_replay.proofs.Passing.{one_more_passed}
 use Rattle.run_replay.proofs.LiveRuns.{live_low}
 use Rattle.run_replay.proofs.Trying.{HaveWaited, PickedNext, goes_on_at, never_all, none_waited, one_more_waits, one_moves, turned_length}
-use Rattle.run_replay.specs.Players.{PlayerStands, PlayerState, are_live, is_ended, play_of, steps_left}
-use Rattle.run_replay.specs.Playing.{GoesOn}
-use Rattle.run_replay.specs.Replays.{from_place, is_waiting_pick, pick_first}
-use Rattle.run_replay.specs.declared.picked.Picked.{Picked}
-use Rattle.std.proofs.Common.{ap, arith, inl, inr, refl, subst, sym, ◌∙◌}
-use Rattle.std.proofs.lemmas.Grind.{common_steps}
-use Rattle.std.proofs.lemmas.List.{append-nil}
-use Rattle.std.specs.List.{range_with_len}
-use Rattle.std.specs.Prelude.{Bool, List, Some, [], drop, false, filter, if◌then◌else◌, length, nat_lt, not, slice_get, suc, take, true, zero, ℕ, ◌++◌, ◌+◌, ◌-◌, ◌<◌, ◌∷◌, ◌≡◌, ◌≤◌, ◌⊎◌}
 
 -- Numbers of a range that pass a test
 

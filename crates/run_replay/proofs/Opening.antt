@@ -1,19 +1,8 @@
 -- The player of a hub in which nothing was done yet.
-use Rattle.device_gate.specs.Grips.{Gripped}
-use Rattle.device_gate.specs.declared.gates.Place.TheVariants.{Out}
-use Rattle.device_gate.specs.declared.grips.Ready.{Ready}
-use Rattle.device_gate.specs.declared.slips.Slip.{Slip}
+use Rattle.run_replay.proofs.Prelude.{Gripped, HoldNothing, List, OpenHub, Option, Out, PlayerIsKept, PlayerIsOpened, PlayerState, Ready, Setting, Shown, Slip, Some, ap, arith, configuration_of, grip_in, length, opened, progress_at, refl, slice_get, subst, sym, ℕ, ◌*◌, ◌+◌, ◌<◌, ◌^◌, ◌∙◌, ◌≡◌, ◌≤◌}
 use Rattle.device_gate.specs.declared.slips.Task.{Task}
-use Rattle.device_states.specs.Devices.{Shown}
-use Rattle.history_book.specs.Settings.{Setting}
 use Rattle.hub_core.specs.Homes.{HomeState}
 use Rattle.hub_core.specs.HubCalls.{IsOpened as IsOpenedOn}
-use Rattle.hub_core.specs.OpenHubs.{OpenHub, configuration_of}
-use Rattle.window_devices.specs.KnownDevices.{grip_in, progress_at}
-use Rattle.hub_core.specs.Steps.{opened}
-use Rattle.run_replay.specs.Players.{HoldNothing, PlayerIsKept, PlayerIsOpened, PlayerState}
-use Rattle.std.proofs.Common.{ap, arith, refl, subst, sym, ◌∙◌}
-use Rattle.std.specs.Prelude.{List, Option, Some, length, slice_get, ℕ, ◌*◌, ◌+◌, ◌<◌, ◌^◌, ◌≡◌, ◌≤◌}
 
 -- the player of the hub, with these hands
 abbrev pub player_of : {D : Type 0} → OpenHub D → List (Option (Gripped D Ready)) → ℕ → PlayerState D

@@ -1,23 +1,11 @@
 -- A run that is known to wait need not be picked: its pick would wait, and leave the play as it is.
-use Rattle.command_rules.specs.Rosters.{is_run}
-use Rattle.history_book.specs.Readings.{Reading}
-use Rattle.history_book.specs.Settings.{Setting}
+use Rattle.run_replay.proofs.Prelude.{ArePicked, Configuration, Grips, IsPicked, List, None, Option, Over, PlayerState, Reading, Setting, Some, Waits, Why, [], after_choice, after_take, ap, at_moment, choice_of, configuration_of, decide, false, get_or, is_run, length, play_of, point, read_of, refl, slice_get, subst, sym, take, true, wait_is, ℕ, ◌+◌, ◌<◌, ◌∙◌, ◌≡◌}
 use Rattle.history_book.specs.declared.entries.End.{End}
-use Rattle.hub_core.proofs.Cited.{wait_is}
 use Rattle.hub_core.specs.BlockedRuns.{IsBlocked, is_wait}
-use Rattle.hub_core.specs.OpenHubs.{configuration_of}
-use Rattle.hub_core.specs.Steps.{Over, Waits, after_choice, after_take, at_moment, choice_of, decide}
-use Rattle.hub_core.specs.declared.waits.Why.{Why}
-use Rattle.lock_leasing.specs.Configurations.{Configuration, Grips, point, read_of}
 use Rattle.run_replay.proofs.Picking.{IsGoing, at_own_moment, going_not_ended, stepped_is_picked, taken_is_stepped}
 use Rattle.run_replay.proofs.Played.{played_next}
 use Rattle.run_replay.proofs.Trying.{HaveWaited, one_more_waits}
-use Rattle.run_replay.specs.Players.{PlayerState, play_of}
-use Rattle.run_replay.specs.Playing.{ArePicked, IsPicked}
 use Rattle.run_replay.specs.declared.picked.Picked.TheVariants.{Waits as Waited}
-use Rattle.std.proofs.Common.{ap, refl, subst, sym, ◌∙◌}
-use Rattle.std.proofs.Math.ListN.{get_or}
-use Rattle.std.specs.Prelude.{List, None, Option, Some, [], false, length, slice_get, take, true, ℕ, ◌+◌, ◌<◌, ◌≡◌}
 
 -- a run that waits has not ended
 waiting_goes : (w : Setting) (n : Reading) (g : Grips) (r m : ℕ) (o : Option End) → (n.run r).ended ≡ o → is_run w.runs r ≡ true → is_wait (decide (point w n g) r m) ≡ true → o ≡ None

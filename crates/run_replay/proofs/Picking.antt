@@ -1,23 +1,7 @@
 -- A pick of an actor is a step of its hub.
-use Rattle.command_rules.specs.Rosters.{device_no, is_run}
-use Rattle.device_gate.specs.Grips.{Gripped}
-use Rattle.device_gate.specs.declared.grips.Ready.{Ready}
-use Rattle.device_gate.specs.declared.slips.Told.{Told}
-use Rattle.history_book.specs.Readings.{put}
-use Rattle.history_book.specs.declared.entries.Entry.{Entry}
-use Rattle.hub_core.specs.OpenHubs.{configuration_of}
-use Rattle.hub_core.specs.Steps.{Absent, Choice, HandsOut, Moves, Over, Waits, after_choice, after_give, after_take, after_take_probe, at_moment, choice_of, give_entries, may_probe, probe_grip}
-use Rattle.lock_leasing.specs.Configurations.{Configuration, Grip, read_of}
-use Rattle.lock_leasing.specs.declared.purposes.Purpose.{Purpose}
+use Rattle.run_replay.proofs.Prelude.{Absent, Bool, Choice, Configuration, Course, Entry, Grip, Gripped, HandsOut, IsPicked, IsStepped, List, Made, Moves, None, Option, Over, Passed, Picked, Play, PlayerIsKept, PlayerState, Purpose, Ready, Some, Tells, Told, Took, Waits, [], act_on, after_choice, after_give, after_take, after_take_probe, ap, arith, at_moment, choice_of, configuration_of, counted_pick, detector_takes, device_no, false, give_entries, gripped, if◌then◌else◌, is_actor_done, is_ended, is_full, is_run, is_some, length, max, may_probe, nat_le, option_map, passes, pick, pick_live, picked_by, play_of, probe_grip, put, read_of, refl, run_takes, slice_get, suc, sym, takes_of, true, unwrap_or, zero, ℕ, ◌%◌, ◌*◌, ◌+◌, ◌-◌, ◌<◌, ◌==◌, ◌∙◌, ◌∷◌, ◌≡◌}
 use Rattle.run_replay.proofs.Gripping.{empty_hand, full_hand}
 use Rattle.run_replay.proofs.Settings.{there}
-use Rattle.run_replay.specs.Players.{PlayerIsKept, PlayerState, is_ended, is_full, play_of}
-use Rattle.run_replay.specs.Playing.{IsPicked, IsStepped, Tells}
-use Rattle.run_replay.specs.Replays.{Course, Play, act_on, counted_pick, detector_takes, gripped, is_actor_done, passes, pick, pick_live, picked_by, run_takes, takes_of}
-use Rattle.run_replay.specs.declared.picked.Picked.TheVariants.{Made, Passed, Took}
-use Rattle.run_replay.specs.declared.picked.Picked.{Picked}
-use Rattle.std.proofs.Common.{ap, arith, refl, sym, ◌∙◌}
-use Rattle.std.specs.Prelude.{Bool, List, None, Option, Some, [], false, if◌then◌else◌, is_some, length, max, nat_le, option_map, slice_get, suc, true, unwrap_or, zero, ℕ, ◌%◌, ◌*◌, ◌+◌, ◌-◌, ◌<◌, ◌==◌, ◌∷◌, ◌≡◌}
 
 -- Which actors have ended
 

@@ -1,11 +1,6 @@
 -- Picks played one after another.
 use Rattle.run_replay.proofs.Tellings.{played_more}
-use Rattle.run_replay.specs.Players.{PlayerState, play_of}
-use Rattle.run_replay.specs.Playing.{ArePicked, IsPicked}
-use Rattle.run_replay.specs.declared.picked.Picked.{Picked}
-use Rattle.std.proofs.Common.{ap, arith, refl, subst, sym, ◌∙◌}
-use Rattle.std.proofs.Math.ListN.{get_or}
-use Rattle.std.specs.Prelude.{List, [], length, suc, take, zero, ℕ, ◌++◌, ◌+◌, ◌<◌, ◌∷◌, ◌≡◌, ◌≤◌}
+use Rattle.run_replay.proofs.Prelude.{ArePicked, IsPicked, List, Picked, PlayerState, [], ap, arith, get_or, length, play_of, refl, subst, suc, sym, take, zero, ℕ, ◌++◌, ◌+◌, ◌<◌, ◌∙◌, ◌∷◌, ◌≡◌, ◌≤◌}
 
 take_one : (xs : List ℕ) (i d : ℕ) → i < length xs → take (i + 1) xs ≡ take i xs ++ get_or xs i d ∷ []
 take_one [] i d low = absurd (omega (arith, low))

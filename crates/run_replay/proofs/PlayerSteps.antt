@@ -1,27 +1,13 @@
 -- What a step of an actor leaves of its player, and a pick.
-use Rattle.command_rules.specs.Rosters.{device_no}
-use Rattle.device_gate.specs.Grips.{Gripped}
-use Rattle.device_gate.specs.declared.grips.Done.{Done}
-use Rattle.device_gate.specs.declared.grips.Ready.{Ready}
-use Rattle.device_states.specs.Devices.{Shown}
-use Rattle.history_book.specs.declared.entries.Entry.{Entry}
+use Rattle.run_replay.proofs.Prelude.{Choice, Done, Entry, Gripped, IsStepped, List, Made, None, Passed, Picked, PlayerPicks, PlayerStands, PlayerState, PlayerStays, PlayerSteps, Ready, Shown, Some, Took, Waits, Why, ap, device_no, false, is_ended, length, most_made, moves_after, picked_by, play_of, refl, subst, suc, sym, true, with_moves, zero, ℕ, ◌+◌, ◌∙◌, ◌≡◌, ◌≤◌}
 use Rattle.home_types.specs.declared.numbers.DeviceNo.{DeviceNo}
-use Rattle.hub_core.specs.Steps.{Choice, Waits}
-use Rattle.hub_core.specs.declared.waits.Why.{Why}
 use Rattle.run_replay.proofs.Acting.{IsGivenBack, given_fewer, given_plans, given_stepped}
 use Rattle.run_replay.proofs.Counted.{counted_now}
 use Rattle.run_replay.proofs.Leaving.{answered_others, given_ends, waited_ends, went_others}
 use Rattle.run_replay.proofs.Settings.{put_length}
 use Rattle.run_replay.proofs.Taking.{GoesToHand, IsAnswered, answered_fewer, answered_plans, answered_stepped, makes, passed_now, waited_left, went_fewer, went_plans, went_stepped}
 use Rattle.run_replay.proofs.Trying.{same_window, window_stays}
-use Rattle.run_replay.specs.PlayerSteps.{PlayerPicks, PlayerStays, PlayerSteps}
-use Rattle.run_replay.specs.Players.{PlayerStands, PlayerState, is_ended, most_made, play_of, with_moves}
-use Rattle.run_replay.specs.Playing.{IsStepped}
-use Rattle.run_replay.specs.Replays.{moves_after, picked_by}
-use Rattle.run_replay.specs.declared.picked.Picked.TheVariants.{Made, Passed, Took, Waits as Waited}
-use Rattle.run_replay.specs.declared.picked.Picked.{Picked}
-use Rattle.std.proofs.Common.{ap, refl, subst, sym, ◌∙◌}
-use Rattle.std.specs.Prelude.{List, None, Some, false, length, suc, true, zero, ℕ, ◌+◌, ◌≡◌, ◌≤◌}
+use Rattle.run_replay.specs.declared.picked.Picked.TheVariants.{Waits as Waited}
 
 pub stays_here : {D : Type 0} (shows : D → Shown) (s : PlayerState D) → PlayerStays shows s s
 stays_here shows s = record { window = window_stays s.hub; rounds = refl; plans = λ plans have. have }

@@ -1,20 +1,8 @@
 -- The detector comes to the next device of its round, and gives back the probe that it holds: what its player is after it.
-use Rattle.device_gate.specs.Grips.{Gripped}
-use Rattle.device_gate.specs.declared.gates.Place.TheVariants.{Home, Out}
-use Rattle.device_gate.specs.declared.grips.Done.{Done}
-use Rattle.device_gate.specs.declared.grips.Ready.{Ready}
-use Rattle.device_gate.specs.declared.slips.Slip.{Slip}
+use Rattle.run_replay.proofs.Prelude.{Bool, Commands, Configuration, Done, Entry, Gripped, Home, IsProbed, IsStepped, List, Made, None, OpenHub, Option, Out, Passed, PlayerIsKept, PlayerState, PlayerSteps, Probes, Purpose, Ready, SameWindow, Shown, Slip, Some, Took, Undoes, after_give, after_take_probe, ap, arith, carried_by, carried_in, common_steps, configuration_of, device_no, false, gave_probe_back, get_or, give_entries, hub_state_of, if◌then◌else◌, is_ended, is_full, length, length_with, may_probe, nat_le, not, play_of, probe_grip, probe_never_refused, put, read_of, refl, slice_get, slice_set, subst, sym, takes_of, took_none, took_probe, true, ℕ, ◌&&◌, ◌*◌, ◌+◌, ◌-◌, ◌<◌, ◌^◌, ◌∙◌, ◌≡◌, ◌≤◌}
 use Rattle.device_gate.specs.declared.strangers.Stranger.{Stranger}
-use Rattle.device_states.specs.Devices.{Shown}
-use Rattle.history_book.specs.declared.entries.Entry.{Entry}
 use Rattle.home_types.specs.declared.numbers.DeviceNo.{DeviceNo}
-use Rattle.hub_core.specs.HubCalls.{IsProbed, SameWindow, carried_by}
 use Rattle.hub_core.specs.HubSteps.{Gave, GiveProbe, HubStep, IsSlipOf, Refused, Returned}
-use Rattle.hub_core.specs.OpenHubs.{OpenHub, carried_in, configuration_of, hub_state_of}
-use Rattle.hub_core.specs.Steps.{after_give, after_take_probe, give_entries, may_probe, probe_grip}
-use Rattle.history_book.specs.Readings.{put}
-use Rattle.hub_core.proofs.Cited.{gave_probe_back, length_with, probe_never_refused, took_none, took_probe}
-use Rattle.lock_leasing.specs.Configurations.{Configuration, read_of}
 use Rattle.run_replay.proofs.Acting.{hand_by, out_of_hand, purpose_at}
 use Rattle.run_replay.proofs.Holding.{Gives, Moves, Takes, gives_keeps, gives_plans, moves_keeps, moves_plans, takes_keeps, takes_plans}
 use Rattle.run_replay.proofs.Leaving.{give_ended, same_ends}
@@ -22,18 +10,6 @@ use Rattle.run_replay.proofs.Picking.{acted_is_stepped, detector_passed, detecto
 use Rattle.run_replay.proofs.Settings.{put_length}
 use Rattle.run_replay.proofs.Stepping.{passed_fewer, probed_fewer, returned_fewer}
 use Rattle.run_replay.proofs.Taking.{some_slip, stays_by}
-use Rattle.run_replay.specs.PlayerSteps.{PlayerSteps}
-use Rattle.run_replay.specs.Players.{PlayerIsKept, PlayerState, is_ended, is_full, play_of}
-use Rattle.run_replay.specs.Playing.{IsStepped}
-use Rattle.run_replay.specs.Replays.{takes_of}
-use Rattle.run_replay.specs.declared.picked.Picked.TheVariants.{Made, Passed, Took}
-use Rattle.std.proofs.Common.{ap, arith, refl, subst, sym, ◌∙◌}
-use Rattle.std.proofs.lemmas.Grind.{common_steps}
-use Rattle.std.proofs.Math.ListN.{get_or}
-use Rattle.std.specs.Prelude.{Bool, List, None, Option, Some, false, if◌then◌else◌, length, nat_le, not, slice_get, slice_set, true, ℕ, ◌&&◌, ◌*◌, ◌+◌, ◌-◌, ◌<◌, ◌^◌, ◌≡◌, ◌≤◌}
-use Rattle.lock_leasing.specs.declared.purposes.Purpose.TheVariants.{Commands, Probes, Undoes}
-use Rattle.lock_leasing.specs.declared.purposes.Purpose.{Purpose}
-use Rattle.command_rules.specs.Rosters.{device_no}
 
 -- The detector comes to a device
 

@@ -1,30 +1,10 @@
 -- Of the actors that have not ended one does not wait.
-use Rattle.command_rules.specs.Rosters.{is_run}
-use Rattle.device_gate.specs.declared.gates.Place.TheVariants.{Home, Out}
-use Rattle.device_gate.specs.declared.gates.Place.{Place}
-use Rattle.history_book.proofs.Cited.{Each, none_is}
-use Rattle.history_book.specs.Readings.{is_live}
-use Rattle.window_devices.proofs.Cited.{none_there}
-use Rattle.hub_core.specs.OpenHubs.{configuration_of}
-use Rattle.window_devices.specs.KnownDevices.{grip_in, progress_at}
-use Rattle.lock_leasing.specs.declared.purposes.Purpose.TheVariants.{Commands, Probes, Undoes}
-use Rattle.lock_leasing.specs.declared.purposes.Purpose.{Purpose}
-use Rattle.hub_core.specs.Steps.{Absent, Choice, HandsOut, Moves, Over, Waits, choice_of}
-use Rattle.hub_core.specs.declared.waits.Why.{Why}
-use Rattle.lock_leasing.specs.Configurations.{Configuration, has_grip, point_of, read_of}
+use Rattle.run_replay.proofs.Prelude.{Absent, Bool, Choice, Commands, Configuration, Course, Each, HandsOut, Home, IsTrue, List, Moves, None, Option, Out, Over, Pick, Place, Play, PlayerIsKept, PlayerState, Probes, Purpose, Some, Undoes, Waits, Why, [], actors, ap, arith, choice_of, common_steps, configuration_of, drop, false, filter, find, from_place, grip_in, gripped, has_grip, if◌then◌else◌, inl, inr, is_actor_done, is_live, is_run, is_some, is_waiting_pick, length, none_is, none_there, not, pick, picked_by, play_of, point_of, progress_at, range_with_len, read_of, refl, slice_get, slice_get_within, subst, suc, sym, take, take-append-drop, true, zero, ℕ, ◌&&◌, ◌++◌, ◌+◌, ◌<◌, ◌∙◌, ◌∷◌, ◌≡◌, ◌≢◌, ◌≤◌}
 use Rattle.lock_leasing.specs.Places.{GripsFit}
 use Rattle.run_replay.proofs.Gripping.{full_hand}
 use Rattle.run_replay.proofs.Picking.{IsGoing, going_not_ended, take_pick}
 use Rattle.run_replay.proofs.Waiting.{act_never_waits, detector_never_waits}
 use Rattle.run_replay.proofs.Settings.{at_or_past, both_are, there, within}
-use Rattle.run_replay.specs.Players.{PlayerIsKept, PlayerState, play_of}
-use Rattle.run_replay.specs.Replays.{Course, Pick, Play, actors, from_place, gripped, is_actor_done, is_waiting_pick, pick, picked_by}
-use Rattle.std.proofs.Common.{ap, arith, inl, inr, refl, subst, sym, ◌∙◌}
-use Rattle.std.proofs.lemmas.Grind.{common_steps}
-use Rattle.std.proofs.lemmas.List.{take-append-drop}
-use Rattle.std.proofs.lemmas.Option.{slice_get_within}
-use Rattle.std.specs.List.{range_with_len}
-use Rattle.std.specs.Prelude.{Bool, IsTrue, List, None, Option, Some, [], drop, false, filter, find, if◌then◌else◌, is_some, length, not, slice_get, suc, take, true, zero, ℕ, ◌&&◌, ◌++◌, ◌+◌, ◌<◌, ◌∷◌, ◌≡◌, ◌≢◌, ◌≤◌}
 
 -- what holds of each number of a range that passes a test holds of the one
 pub each_at : (Q : ℕ → Type 0) (p : ℕ → Bool) (from n a : ℕ) → Each Q (filter p (range_with_len from n)) → from ≤ a → a < from + n → p a ≡ true → Q a

@@ -1,23 +1,12 @@
 -- A hub whose player was opened, played on until every actor had ended, and closed: its window was replayed.
-use Rattle.device_gate.specs.declared.slips.Told.TheVariants.{Worked}
-use Rattle.device_states.specs.Devices.{Shown}
+use Rattle.run_replay.proofs.Prelude.{ArePicked, Course, HavePlans, HubStands, IsFinished, IsReplay, List, None, OpenHub, Option, PlayerIsKept, PlayerIsOpened, PlayerState, SameWindow, Shown, WindowIsClosed, Worked, ap, configuration_of, inl, inr, not_quiet, plan_in, play_of, progress_at, refl, slice_get, subst, sym, window_worked, ℕ, ◌-◌, ◌∙◌, ◌≡◌}
 use Rattle.history_book.specs.declared.records.WindowRecord.{WindowRecord}
-use Rattle.hub_core.proofs.Cited.{plan_in, window_worked}
 use Rattle.hub_core.specs.Homes.{HomeState}
-use Rattle.hub_core.specs.HubCalls.{HubStands, SameWindow, WindowIsClosed}
-use Rattle.hub_core.specs.OpenHubs.{OpenHub, configuration_of}
-use Rattle.window_devices.specs.KnownDevices.{progress_at}
-use Rattle.hub_core.specs.Steps.{not_quiet}
 use Rattle.run_replay.proofs.Ending.{quiet_at_end}
 use Rattle.run_replay.proofs.Living.{actors_are}
 use Rattle.run_replay.proofs.Tellings.{replays}
 use Rattle.run_replay.proofs.Trying.{same_window}
-use Rattle.run_replay.specs.Players.{HavePlans, PlayerIsKept, PlayerIsOpened, PlayerState, play_of}
-use Rattle.run_replay.specs.Playing.{ArePicked, IsFinished}
 use Rattle.run_replay.specs.ReplayedWindows.{IsReplayBy, IsReplayed}
-use Rattle.run_replay.specs.Replays.{Course, IsReplay}
-use Rattle.std.proofs.Common.{ap, inl, inr, refl, subst, sym, ◌∙◌}
-use Rattle.std.specs.Prelude.{List, None, Option, slice_get, ℕ, ◌-◌, ◌≡◌}
 
 -- from the opening over the picks to the end, what the player's calls answer
 pub record Went {D : Type 0} (hub : OpenHub D) (picks : List ℕ) (seed rounds : ℕ) (first played last : PlayerState D) : Type 0 where

@@ -1,8 +1,5 @@
 -- Lists with one item put anew, and the first number of a range that passes a test.
-use Rattle.run_replay.specs.Players.{empty_places}
-use Rattle.std.proofs.Common.{ap, inl, inr, arith, refl, sym, ◌∙◌}
-use Rattle.std.specs.List.{range_with_len}
-use Rattle.std.specs.Prelude.{Bool, List, None, Option, Some, [], false, find, is_some, length, not, slice_get, slice_set, suc, true, zero, ℕ, ◌+◌, ◌<◌, ◌∷◌, ◌≡◌, ◌≢◌, ◌≤◌, ◌||◌, ◌⊎◌}
+use Rattle.run_replay.proofs.Prelude.{Bool, List, None, Option, Some, [], ap, arith, empty_places, false, find, inl, inr, is_some, length, not, range_with_len, refl, slice_get, slice_set, suc, sym, true, zero, ℕ, ◌+◌, ◌<◌, ◌||◌, ◌∙◌, ◌∷◌, ◌≡◌, ◌≢◌, ◌≤◌, ◌⊎◌}
 
 pub put_same_place : {A : Type 0} (xs : List A) (i : ℕ) (y : A) → i < length xs → slice_get (slice_set xs i y) i ≡ Some y
 put_same_place [] i y h = absurd (omega (arith, h))

@@ -1,11 +1,7 @@
 -- Each step that is no wait leaves fewer steps.
-use Rattle.device_gate.specs.Grips.{Gripped}
-use Rattle.device_gate.specs.declared.grips.Ready.{Ready}
+use Rattle.run_replay.proofs.Prelude.{Gripped, List, None, Option, PlayerState, Ready, Some, [], ap, arith, drop, empty_places, first_is_full, length, most_made, refl, slice_get, slice_set, steps_left, subst, suc, sym, ℕ, ◌*◌, ◌+◌, ◌-◌, ◌<◌, ◌∙◌, ◌∷◌, ◌≡◌, ◌≤◌}
 use Rattle.hub_core.specs.Bounds.{most_entries}
 use Rattle.run_replay.proofs.Settings.{fill_place, free_place}
-use Rattle.run_replay.specs.Players.{PlayerState, empty_places, first_is_full, most_made, steps_left}
-use Rattle.std.proofs.Common.{ap, arith, refl, subst, sym, ◌∙◌}
-use Rattle.std.specs.Prelude.{List, None, Option, Some, [], drop, length, slice_get, slice_set, suc, ℕ, ◌*◌, ◌+◌, ◌-◌, ◌<◌, ◌∷◌, ◌≡◌, ◌≤◌}
 
 -- the places of the runs are those behind the detector's
 behind_get : {A : Type 0} (xs : List A) (r : ℕ) → slice_get (drop 1 xs) r ≡ slice_get xs (suc r)

@@ -1,29 +1,12 @@
 -- A run takes its step: what its player is after it.
-use Rattle.command_rules.specs.Rosters.{is_run}
-use Rattle.device_gate.specs.Grips.{Gripped}
-use Rattle.device_gate.specs.declared.grips.Ready.{Ready}
-use Rattle.device_gate.specs.declared.slips.Slip.{Slip}
-use Rattle.device_states.specs.Devices.{Plan, Shown}
-use Rattle.hub_core.proofs.Cited.{decide_is, length_with, took_after, took_choice}
-use Rattle.window_devices.proofs.Cited.{none_there}
-use Rattle.hub_core.specs.HubCalls.{Answers, DeviceGoesOut, SameWindow}
+use Rattle.run_replay.proofs.Prelude.{Absent, Answers, Bool, Choice, Configuration, DeviceGoesOut, Gripped, HandsOut, HavePlans, IsPicked, IsStepped, Moves, None, OpenHub, Over, Passed, Plan, PlayerIsKept, PlayerStands, PlayerState, Ready, SameWindow, Shown, Slip, Some, Took, Waits, Why, after_choice, after_take, ap, arith, at_moment, choice_of, configuration_of, decide_is, false, hub_state_of, is_ended, is_full, is_run, is_some, length, length_with, most_made, none_there, picked_by, play_of, read_of, slice_get, slice_set, steps_left, subst, suc, sym, took_after, took_choice, true, zero, ℕ, ◌*◌, ◌<◌, ◌^◌, ◌∙◌, ◌≡◌, ◌≢◌, ◌≤◌}
 use Rattle.hub_core.specs.HubSteps.{IsSlipOf, SlipFits}
-use Rattle.hub_core.specs.OpenHubs.{OpenHub, configuration_of, hub_state_of}
-use Rattle.hub_core.specs.Steps.{Absent, Choice, HandsOut, Moves, Over, Waits, after_choice, after_take, at_moment, choice_of}
-use Rattle.hub_core.specs.declared.waits.Why.{Why}
-use Rattle.lock_leasing.specs.Configurations.{Configuration, read_of}
 use Rattle.run_replay.proofs.Holding.{Moves as MovesOn, Takes, moves_keeps, moves_plans, takes_keeps, takes_plans}
 use Rattle.run_replay.proofs.Making.{Makes, choice_makes}
 use Rattle.run_replay.proofs.Gripping.{empty_hand}
 use Rattle.run_replay.proofs.Picking.{IsGoing, empty_is, passed_is_picked, same_moment, taken_is_stepped}
 use Rattle.run_replay.proofs.Settings.{both_are, within}
 use Rattle.run_replay.proofs.Stepping.{StaysBy, made_fewer, still_left, took_fewer}
-use Rattle.run_replay.specs.Players.{HavePlans, PlayerIsKept, PlayerStands, PlayerState, is_ended, is_full, most_made, play_of, steps_left}
-use Rattle.run_replay.specs.Playing.{IsPicked, IsStepped}
-use Rattle.run_replay.specs.Replays.{picked_by}
-use Rattle.run_replay.specs.declared.picked.Picked.TheVariants.{Passed, Took}
-use Rattle.std.proofs.Common.{ap, arith, subst, sym, ◌∙◌}
-use Rattle.std.specs.Prelude.{Bool, None, Some, false, is_some, length, slice_get, slice_set, suc, true, zero, ℕ, ◌*◌, ◌<◌, ◌^◌, ◌≡◌, ◌≢◌, ◌≤◌}
 
 -- What is known before
 

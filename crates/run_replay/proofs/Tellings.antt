@@ -1,14 +1,5 @@
 -- Plays that go on one after another.
-use Rattle.device_gate.specs.declared.slips.Told.{Told}
-use Rattle.device_gate.specs.declared.slips.Told.TheVariants.{Worked}
-use Rattle.history_book.specs.Settings.{Setting}
-use Rattle.run_replay.specs.Playing.{ArePicked, GoesOn, IsFinished, IsPicked, Tells}
-use Rattle.run_replay.specs.Replays.{Course, DrawnPlay, IsReplay, Pick, Play, draw_once, draw_times, pick, play, start_of}
-use Rattle.run_replay.specs.declared.picked.Picked.{Picked}
-use Rattle.std.proofs.Common.{ap, arith, refl, subst, sym, ◌∙◌}
-use Rattle.std.proofs.lemmas.List.{length-append}
-use Rattle.std.proofs.lemmas.Grind.{fold-append}
-use Rattle.std.specs.Prelude.{List, Some, [], length, slice_get, slice_index_or, suc, zero, ℕ, ◌++◌, ◌+◌, ◌∷◌, ◌≡◌}
+use Rattle.run_replay.proofs.Prelude.{ArePicked, Course, DrawnPlay, GoesOn, IsFinished, IsPicked, IsReplay, List, Pick, Picked, Play, Setting, Some, Tells, Told, Worked, [], ap, arith, draw_once, draw_times, fold-append, length, length-append, pick, play, refl, slice_get, slice_index_or, start_of, subst, suc, sym, zero, ℕ, ◌++◌, ◌+◌, ◌∙◌, ◌∷◌, ◌≡◌}
 
 get_front : {A : Type 0} (xs ys : List A) (k : ℕ) (x : A) → slice_get xs k ≡ Some x → slice_get (xs ++ ys) k ≡ Some x
 get_front [] ys k x e = absurd (cc)

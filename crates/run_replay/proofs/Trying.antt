@@ -1,9 +1,5 @@
 -- The actors that have not ended, picked one after another while they wait.
-use Rattle.device_gate.specs.declared.slips.Told.TheVariants.{Worked}
-use Rattle.device_gate.specs.declared.slips.Told.{Told}
-use Rattle.history_book.proofs.Cited.{Each}
-use Rattle.hub_core.specs.HubCalls.{SameWindow}
-use Rattle.hub_core.specs.OpenHubs.{OpenHub, configuration_of}
+use Rattle.run_replay.proofs.Prelude.{Bool, Course, Each, GoesOn, IsPicked, IsTried, List, None, OpenHub, Option, Pick, Picked, Play, PlayerIsKept, PlayerStands, PlayerState, SameWindow, Some, Tells, Told, Worked, [], actors, ap, are_live, arith, configuration_of, drop, empty_places, false, first_is_full, from_place, gripped, inl, inr, is_actor_done, is_ended, is_full, is_some, is_waiting_pick, length, length-append, most_made, not, option_map, pick, pick_first, play_of, refl, slice_get, slice_get_within, slice_index_or, steps_left, subst, suc, sym, take, take-append-drop, true, unwrap_or, zero, ℕ, ◌*◌, ◌++◌, ◌+◌, ◌-◌, ◌<◌, ◌∙◌, ◌∷◌, ◌≡◌, ◌≤◌}
 use Rattle.run_replay.proofs.Counting.{of_filter}
 use Rattle.run_replay.proofs.Drawn.{none_tried, tried_more, tried_moves}
 use Rattle.run_replay.proofs.Gripping.{empty_hand, full_hand}
@@ -14,15 +10,7 @@ use Rattle.run_replay.proofs.Settings.{at_or_past}
 use Rattle.run_replay.proofs.Waiting.{wait_keeps, waited}
 use Rattle.run_replay.proofs.Stepping.{same_most}
 use Rattle.run_replay.proofs.Tellings.{index_or_get}
-use Rattle.run_replay.specs.Players.{PlayerIsKept, PlayerStands, PlayerState, are_live, empty_places, first_is_full, is_ended, is_full, most_made, play_of, steps_left}
-use Rattle.run_replay.specs.Playing.{GoesOn, IsPicked, IsTried, Tells}
-use Rattle.run_replay.specs.Replays.{Course, Pick, Play, actors, from_place, gripped, is_actor_done, is_waiting_pick, pick, pick_first}
-use Rattle.run_replay.specs.declared.picked.Picked.{Picked}
-use Rattle.std.proofs.Common.{ap, arith, inl, inr, refl, subst, sym, ◌∙◌}
 use Rattle.std.proofs.lemmas.Bool.{not-true}
-use Rattle.std.proofs.lemmas.List.{length-append, take-append-drop}
-use Rattle.std.proofs.lemmas.Option.{slice_get_within}
-use Rattle.std.specs.Prelude.{Bool, List, None, Option, Some, [], drop, false, is_some, length, not, option_map, slice_get, slice_index_or, suc, take, true, unwrap_or, zero, ℕ, ◌*◌, ◌++◌, ◌+◌, ◌-◌, ◌<◌, ◌∷◌, ◌≡◌, ◌≤◌}
 
 -- A pick that waits
 

@@ -1,12 +1,6 @@
 -- A pick that waits changes no more than the last moment.
-use Rattle.command_rules.specs.Rosters.{device_no}
-use Rattle.hub_core.specs.Steps.{Absent, Choice, HandsOut, Moves, Over, Waits, after_choice, after_take_probe, at_moment, choice_of, may_probe}
-use Rattle.lock_leasing.specs.Configurations.{Configuration, Grip}
-use Rattle.run_replay.specs.Replays.{Course, Pick, Play, act_on, act_where_out, actor_takes, counted_pick, detector_takes, gripped, is_actor_done, is_waiting_pick, moves_after, passes, pick, pick_live, picked_by, run_takes}
-use Rattle.run_replay.specs.declared.picked.Picked.TheVariants.{Made, Passed, Took, Waits as Waited}
-use Rattle.run_replay.specs.declared.picked.Picked.{Picked}
-use Rattle.std.proofs.Common.{ap, refl, ◌∙◌}
-use Rattle.std.specs.Prelude.{Bool, None, Option, Some, false, if◌then◌else◌, length, option_map, suc, true, unwrap_or, zero, ℕ, ◌%◌, ◌+◌, ◌≡◌}
+use Rattle.run_replay.proofs.Prelude.{Absent, Bool, Choice, Configuration, Course, Grip, HandsOut, Made, Moves, None, Option, Over, Passed, Pick, Picked, Play, Some, Took, Waits, act_on, act_where_out, actor_takes, after_choice, after_take_probe, ap, at_moment, choice_of, counted_pick, detector_takes, device_no, false, gripped, if◌then◌else◌, is_actor_done, is_waiting_pick, length, may_probe, moves_after, option_map, passes, pick, pick_live, picked_by, refl, run_takes, suc, true, unwrap_or, zero, ℕ, ◌%◌, ◌+◌, ◌∙◌, ◌≡◌}
+use Rattle.run_replay.specs.declared.picked.Picked.TheVariants.{Waits as Waited}
 
 -- the play after a pick that waits
 abbrev pub waited : Play → Play

@@ -1,12 +1,6 @@
 -- A line in which two neighbours are exchanged.
-use Rattle.command_rules.specs.ClosedSets.{Exchanged, HoldsFirst, Stays, Swaps, are_apart, chosen, exchanged, others, rearranged}
-use Rattle.home_types.specs.declared.items.Item.{Item}
+use Rattle.serial_line.proofs.Prelude.{Bool, Exchanged, HoldsFirst, Item, List, Mark, Stays, Swaps, [], all_differ, ap, append_assoc, are_apart, arith, chosen, common_steps, exchanged, false, front_of, get_or, if◌then◌else◌, is_item, is_open_run, items_of, length, list_any, not, option_and_then, option_map, others, rearranged, refl, set, slice_get, subst, suc, swap, sym, take, true, unwrap_or, zero, ℕ, ◌&&◌, ◌++◌, ◌+◌, ◌<◌, ◌||◌, ◌∙◌, ◌∷◌, ◌≡◌, ◌≢◌, ◌≤◌}
 use Rattle.serial_line.proofs.Once.{item_back}
-use Rattle.serial_line.specs.Marks.{Mark, all_differ, front_of, is_item, is_open_run, items_of}
-use Rattle.std.proofs.Common.{ap, append_assoc, arith, get_or, refl, set, subst, sym, ◌∙◌}
-use Rattle.std.proofs.lemmas.Grind.{common_steps}
-use Rattle.std.specs.List.{list_any, swap}
-use Rattle.std.specs.Prelude.{Bool, List, [], false, if◌then◌else◌, length, not, option_and_then, option_map, slice_get, suc, take, true, unwrap_or, zero, ℕ, ◌&&◌, ◌++◌, ◌+◌, ◌<◌, ◌||◌, ◌∷◌, ◌≡◌, ◌≢◌, ◌≤◌}
 
 -- two places of a list, set so, are exchanged
 swap_suc : {A : Type 0} (xs : List A) (at : ℕ) (d : A) → suc at < length xs → set (set xs at (get_or xs (suc at) d)) (suc at) (get_or xs at d) ≡ exchanged at xs

@@ -1,10 +1,5 @@
 -- The number of items before the first run that has not ended: what it is after a change, and how it is found.
-use Rattle.command_rules.specs.Items.{of_run}
-use Rattle.home_types.specs.declared.items.Item.TheVariants.{Back, Failed, Ran}
-use Rattle.home_types.specs.declared.items.Item.{Item}
-use Rattle.serial_line.specs.Marks.{Mark, front_of, is_open_run}
-use Rattle.std.proofs.Common.{ap, arith, refl, ◌∙◌}
-use Rattle.std.specs.Prelude.{Bool, List, [], false, get_or, if◌then◌else◌, insert, length, not, remove, slice_set, suc, true, zero, ℕ, ◌+◌, ◌<◌, ◌∷◌, ◌≡◌, ◌≤◌}
+use Rattle.serial_line.proofs.Prelude.{Back, Bool, Failed, Item, List, Mark, Ran, [], ap, arith, false, front_of, get_or, if◌then◌else◌, insert, is_open_run, length, not, of_run, refl, remove, slice_set, suc, true, zero, ℕ, ◌+◌, ◌<◌, ◌∙◌, ◌∷◌, ◌≡◌, ◌≤◌}
 
 -- How it is found
 

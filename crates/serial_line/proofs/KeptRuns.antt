@@ -1,25 +1,11 @@
 -- What a line keeps of the runs of its window tells which items meet.
-use Rattle.command_rules.proofs.Cited.{both_touch, found}
-use Rattle.command_rules.specs.Apart.{are_tied, meet, share_device}
-use Rattle.command_rules.specs.Rosters.{Run, commands_of, followed_by, follows, is_on, is_run, run_in_roster, shares, touches}
-use Rattle.home_types.proofs.Cited.{contains_insert, snoc_get}
+use Rattle.serial_line.proofs.Prelude.{AreKeptOf, Back, Bool, Failed, HasRoomForRuns, IsTrue, Item, List, None, Option, Ran, Run, RunNo, Some, [], ap, are_tied, arith, at_drop_more, both_touch, commands_of, common_steps, contains_insert, drop, drop_all, false, followed_by, follows, found, get_or, inl, inr, is_on, is_run, is_some, kept_run, length, length-append, length-map, list_any, map, map-append, meet, nat_cmp, on_device, option_and_then, option_map, refl, run_in_roster, share_device, shares, slice_get, slice_get-map, snoc_get, subst, suc, sym, touches, true, unwrap_or, zero, ℕ, ◌++◌, ◌+◌, ◌-◌, ◌<◌, ◌==◌, ◌||◌, ◌↔◌, ◌∙◌, ◌∷◌, ◌≡◌, ◌≢◌, ◌≤◌, ◌⊎◌}
 use Rattle.home_types.specs.DeviceSets.{Devices, Meet}
 use Rattle.home_types.specs.Listed.{Listed}
 use Rattle.home_types.specs.declared.commands.Command.{Command}
-use Rattle.home_types.specs.declared.items.Item.TheVariants.{Back, Failed, Ran}
-use Rattle.home_types.specs.declared.items.Item.{Item}
-use Rattle.home_types.specs.declared.numbers.RunNo.{RunNo}
 use Rattle.serial_line.proofs.Meetings.{both_ways, listed, meets_told}
-use Rattle.serial_line.specs.KeptRuns.{AreKeptOf, HasRoomForRuns, kept_run, on_device}
 use Rattle.serial_line.specs.declared.kept_runs.KeptRun.{KeptRun}
-use Rattle.std.proofs.Common.{ap, arith, inl, inr, refl, subst, sym, ◌∙◌, ◌⊎◌}
-use Rattle.std.proofs.lemmas.Grind.{common_steps}
-use Rattle.std.proofs.lemmas.List.{at_drop_more, drop_all, length-append, length-map, map-append}
-use Rattle.std.proofs.lemmas.Option.{slice_get-map}
 use Rattle.std.specs.FinSet as set
-use Rattle.std.specs.List.{list_any}
-use Rattle.std.specs.Ordering.{nat_cmp}
-use Rattle.std.specs.Prelude.{Bool, IsTrue, List, None, Option, Some, [], drop, false, get_or, is_some, length, map, option_and_then, option_map, slice_get, suc, true, unwrap_or, zero, ℕ, ◌++◌, ◌+◌, ◌-◌, ◌<◌, ◌==◌, ◌||◌, ◌↔◌, ◌∷◌, ◌≡◌, ◌≢◌, ◌≤◌}
 
 -- The devices of some commands
 

@@ -1,16 +1,7 @@
 -- The labels of a line: that they rise and leave room after an item comes or goes, and after they are given anew.
-use Rattle.home_types.specs.declared.items.Item.TheVariants.{Ran}
-use Rattle.home_types.specs.declared.items.Item.{Item}
-use Rattle.home_types.specs.declared.numbers.RunNo.{RunNo}
-use Rattle.serial_line.specs.Labels.{AreLabels, IsBetween, IsUnder, LabelsAreInOrder, LabelsRise, LastLeavesRoom, LeavesRoom, has_free, label_at_end, label_before, label_of, labels_without, new_label}
-use Rattle.serial_line.specs.Marks.{Marked, place_of}
-use Rattle.std.proofs.Common.{ap, arith, refl, subst, sym, ◌∙◌}
+use Rattle.serial_line.proofs.Prelude.{AreLabels, Bool, IfSome, IsBetween, IsUnder, Item, LabelsAreInOrder, LabelsRise, LastLeavesRoom, LeavesRoom, List, Marked, None, Option, Ran, RunNo, Some, [], ap, arith, common_steps, false, get_or, get_or-set_other, get_or-set_same, has_free, if◌then◌else◌, insert, is_some, label_at_end, label_before, label_of, labels_without, length, nat_lt, new_label, option_map, place_of, refl, remove, slice_get, slice_get-get_or, slice_get_within, slice_set, subst, suc, sym, take, true, unwrap_or, zero, ℕ, ◌+◌, ◌-◌, ◌/◌, ◌<◌, ◌==◌, ◌^◌, ◌∙◌, ◌∷◌, ◌≡◌, ◌≤◌}
 use Rattle.std.proofs.lemmas.Bool.{eqb-false, eqb-true}
-use Rattle.std.proofs.lemmas.Grind.{common_steps}
-use Rattle.std.proofs.lemmas.List.{get_or-set_other, get_or-set_same}
-use Rattle.std.proofs.lemmas.Option.{slice_get-get_or, slice_get_within}
 use Rattle.std.specs.Option.{option_and_then}
-use Rattle.std.specs.Prelude.{Bool, IfSome, List, None, Option, Some, if◌then◌else◌, is_some, option_map, slice_get, unwrap_or, [], false, get_or, insert, length, nat_lt, remove, slice_set, suc, take, true, zero, ℕ, ◌+◌, ◌-◌, ◌/◌, ◌<◌, ◌==◌, ◌^◌, ◌∷◌, ◌≡◌, ◌≤◌}
 
 -- What stands at a place
 

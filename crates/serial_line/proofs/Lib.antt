@@ -1,3 +1,4 @@
+mod Prelude
 mod Searches
 mod Once
 mod Exchanged

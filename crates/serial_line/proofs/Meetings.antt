@@ -1,14 +1,9 @@
 -- Sets of devices that have a device in common.
-use Rattle.home_types.proofs.Cited.{contains_one}
+use Rattle.serial_line.proofs.Prelude.{Bool, IsTrue, List, [], ap, ap₂, arith, common_steps, contains_one, eq_by_cmp, false, list_any, nat_cmp, refl, sym, true, ℕ, ◌==◌, ◌||◌, ◌↔◌, ◌∙◌, ◌∷◌, ◌≡◌}
 use Rattle.home_types.specs.DeviceSets.{Devices, Meet}
-use Rattle.std.proofs.Common.{ap, ap₂, arith, refl, sym, ◌∙◌}
 use Rattle.std.proofs.lemmas.Bool.{eq-eqb, or_left, or_right}
-use Rattle.std.proofs.lemmas.Grind.{common_steps}
 use Rattle.std.specs.Cmp.{unsigned_tied}
 use Rattle.std.specs.FinSet as set
-use Rattle.std.specs.List.{list_any}
-use Rattle.std.specs.Ordering.{eq_by_cmp, nat_cmp}
-use Rattle.std.specs.Prelude.{Bool, IsTrue, List, [], false, true, ℕ, ◌==◌, ◌||◌, ◌↔◌, ◌∷◌, ◌≡◌}
 
 -- the number of some item passes
 picked : {A : Type 0} (number : A → ℕ) (p : ℕ → Bool) (xs : List A) → list_any (λ x. p (number x)) xs ≡ true → (d : ℕ) × (list_any (λ x. number x == d) xs ≡ true) × (p d ≡ true)

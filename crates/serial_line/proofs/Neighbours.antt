@@ -1,15 +1,5 @@
 -- Which marks of a line may be exchanged, by their items.
-use Rattle.command_rules.proofs.Cited.{apart_there}
-use Rattle.command_rules.specs.Apart.{meet}
-use Rattle.command_rules.specs.ClosedSets.{IsClosed, are_apart, chosen}
-use Rattle.command_rules.specs.Rosters.{Run}
-use Rattle.home_types.specs.declared.items.Item.{Item}
-use Rattle.serial_line.specs.Marks.{Mark, items_of, meet_marks}
-use Rattle.std.proofs.Common.{ap, refl, subst, sym, ◌∙◌}
-use Rattle.std.proofs.lemmas.List.{length-map}
-use Rattle.std.proofs.lemmas.Option.{slice_get-map}
-use Rattle.std.specs.List.{list_any}
-use Rattle.std.specs.Prelude.{Bool, List, None, Option, Some, [], false, length, not, option_and_then, option_map, slice_get, true, unwrap_or, ℕ, ◌+◌, ◌<◌, ◌||◌, ◌∷◌, ◌≡◌}
+use Rattle.serial_line.proofs.Prelude.{Bool, IsClosed, Item, List, Mark, None, Option, Run, Some, [], ap, apart_there, are_apart, chosen, false, items_of, length, length-map, list_any, meet, meet_marks, not, option_and_then, option_map, refl, slice_get, slice_get-map, subst, sym, true, unwrap_or, ℕ, ◌+◌, ◌<◌, ◌||◌, ◌∙◌, ◌∷◌, ◌≡◌}
 
 -- neighbours that are apart are there
 pub neighbours_there : (runs : List Run) (ms : List Mark) (at : ℕ) → are_apart (meet runs) at (items_of ms) ≡ true → at + 1 < length ms

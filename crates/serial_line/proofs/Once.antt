@@ -1,18 +1,8 @@
 -- A line in which no item stands twice.
-use Rattle.command_rules.proofs.Cited.{last_unfound}
-use Rattle.command_rules.specs.Items.{is_ran}
-use Rattle.home_types.specs.declared.items.Item.TheVariants.{Back, Failed, Ran}
-use Rattle.home_types.specs.declared.items.Item.{Item}
+use Rattle.serial_line.proofs.Prelude.{Back, Bool, Failed, Item, List, Mark, None, Option, Ran, Some, [], all_differ, ap, ap₂, arith, common_steps, cond, drop, false, filter, get_or, get_or-map, if◌then◌else◌, insert, is_failure, is_item, is_ran, is_restart_of, is_some, items_of, last_place, last_unfound, length, length-map, list_any, map, map-append, not, place_of, prefix_len, refl, remove, slice_set, stands, suc, sym, take, take-append-drop, true, untouched, zero, ℕ, ◌&&◌, ◌++◌, ◌<◌, ◌||◌, ◌∙◌, ◌∷◌, ◌≡◌}
 use Rattle.serial_line.proofs.Searches.{any_at, position_none, position_told, position_untold}
-use Rattle.serial_line.specs.Marks.{Mark, all_differ, is_failure, is_item, is_restart_of, items_of, place_of, stands, untouched}
-use Rattle.command_rules.specs.Searches.{last_place}
-use Rattle.std.proofs.Common.{ap, ap₂, arith, cond, refl, sym, ◌∙◌}
-use Rattle.std.proofs.lemmas.Grind.{common_steps}
-use Rattle.std.proofs.lemmas.List.{get_or-map, length-map, map-append, take-append-drop}
 use Rattle.std.proofs.lemmas.List.Folds.{list_any-append}
 use Rattle.std.specs.FinSet as set
-use Rattle.std.specs.List.{list_any, prefix_len}
-use Rattle.std.specs.Prelude.{Bool, List, None, Option, Some, [], drop, false, filter, get_or, insert, if◌then◌else◌, is_some, length, map, not, remove, slice_set, suc, take, true, zero, ℕ, ◌&&◌, ◌<◌, ◌||◌, ◌++◌, ◌∷◌, ◌≡◌}
 
 -- items that are the same are the same as each other item
 like : (x y z : Item) → is_item x y ≡ true → is_item x z ≡ is_item y z

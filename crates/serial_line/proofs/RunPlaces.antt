@@ -1,19 +1,9 @@
 -- The places that are kept of the runs: what they are after an item comes or goes, and each behind it is told its place.
-use Rattle.command_rules.specs.Items.{is_ran}
-use Rattle.home_types.specs.declared.items.Item.TheVariants.{Back, Failed, Ran}
-use Rattle.home_types.specs.declared.items.Item.{Item}
-use Rattle.home_types.specs.declared.numbers.RunNo.{RunNo}
-use Rattle.command_rules.specs.ClosedSets.{exchanged}
+use Rattle.serial_line.proofs.Prelude.{ArePlacesBefore, AreRunPlaces, Back, Bool, Failed, Item, List, Mark, None, Option, Ran, RunNo, Some, [], all_differ, ap, arith, common_steps, exchanged, false, get_or, get_or-map, get_or-set_at, get_or-set_other, if◌then◌else◌, insert, is_before_place, is_ran, items_of, length, length-map, nat_lt, position, refl, remove, replicate, run_place, slice_index_or, slice_set, stands, subst, suc, sym, true, untouched, with_place, zero, ℕ, ◌+◌, ◌-◌, ◌<◌, ◌∙◌, ◌∷◌, ◌≡◌, ◌≢◌, ◌≤◌}
 use Rattle.serial_line.proofs.Exchanged.{any_exchanged, differ_exchanged, get_else, get_first, get_second, length_exchanged}
 use Rattle.serial_line.proofs.Once.{place_is, place_told, untold_stands}
 use Rattle.serial_line.proofs.Searches.{any_at}
-use Rattle.serial_line.specs.Marks.{Mark, all_differ, items_of, stands, untouched}
-use Rattle.serial_line.specs.RunPlaces.{ArePlacesBefore, AreRunPlaces, is_before_place, run_place, with_place}
-use Rattle.std.proofs.Common.{ap, arith, refl, subst, sym, ◌∙◌}
-use Rattle.std.proofs.lemmas.Grind.{common_steps, get_or-set_at}
-use Rattle.std.proofs.lemmas.List.{get_or-map, get_or-set_other, length-map}
 use Rattle.std.proofs.lemmas.List.Edits.{get_or-insert_above, get_or-insert_below, get_or-remove_above, get_or-remove_below, length-insert, length-remove}
-use Rattle.std.specs.Prelude.{Bool, List, None, Option, Some, [], false, get_or, if◌then◌else◌, insert, length, nat_lt, position, remove, replicate, slice_index_or, slice_set, suc, true, zero, ℕ, ◌+◌, ◌-◌, ◌<◌, ◌∷◌, ◌≡◌, ◌≢◌, ◌≤◌}
 
 abbrev the_run : ℕ → Item
 the_run r = Ran (record { 0 = r })

@@ -1,15 +1,8 @@
 -- The sealed items of a line: where an item that is not one of them stands.
-use Rattle.command_rules.specs.Items.{is_ran, of_run}
-use Rattle.home_types.specs.declared.items.Item.TheVariants.{Back, Failed, Ran}
-use Rattle.home_types.specs.declared.items.Item.{Item}
-use Rattle.home_types.specs.declared.numbers.RunNo.{RunNo}
+use Rattle.serial_line.proofs.Prelude.{Back, Bool, Failed, Item, List, Mark, Ran, RunNo, Some, [], ap, arith, common_steps, cond, false, front_of, get_or, if◌then◌else◌, is_item, is_open_run, is_ran, length, marks_without, nat_lt, not, of_run, place_of, refl, settling, stands, suc, sym, take, touching, true, untouched, with_item, zero, ℕ, ◌+◌, ◌<◌, ◌||◌, ◌∙◌, ◌∷◌, ◌≡◌, ◌≤◌}
 use Rattle.serial_line.proofs.Once.{place_told}
-use Rattle.serial_line.specs.Marks.{Mark, front_of, is_item, is_open_run, marks_without, place_of, settling, stands, touching, untouched, with_item}
 use Rattle.serial_line.specs.Ties.{Each, EndsAs}
-use Rattle.std.proofs.Common.{ap, arith, cond, refl, sym, ◌∙◌}
-use Rattle.std.proofs.lemmas.Grind.{common_steps}
 use Rattle.std.specs.FinSet as set
-use Rattle.std.specs.Prelude.{Bool, List, Some, [], false, get_or, if◌then◌else◌, length, nat_lt, not, suc, take, true, zero, ℕ, ◌+◌, ◌<◌, ◌||◌, ◌∷◌, ◌≡◌, ◌≤◌}
 
 stands_below : (x : Item) (ms : List Mark) (k n : ℕ) (d : Mark) → k < n → k < length ms → is_item x (get_or ms k d).item ≡ true → stands x (take n ms) ≡ true
 stands_below x [] k n d low within there = absurd (omega (arith, within))

@@ -1,12 +1,6 @@
 -- What searches in a list find.
-use Rattle.command_rules.proofs.Cited.{last_found, last_unfound}
-use Rattle.command_rules.specs.Searches.{last_place}
-use Rattle.std.proofs.Common.{ap, arith, cond, refl, subst}
-use Rattle.std.proofs.lemmas.Grind.{common_steps}
+use Rattle.serial_line.proofs.Prelude.{Bool, List, None, Option, Some, [], ap, arith, common_steps, cond, false, get_or, if◌then◌else◌, last_found, last_place, last_unfound, length, list_any, max, nat_lt, not, option_map, option_or, position, prefix_len, refl, subst, suc, true, unwrap_or, zero, ℕ, ◌+◌, ◌<◌, ◌||◌, ◌∷◌, ◌≡◌, ◌≤◌}
 use Rattle.std.proofs.lemmas.List.Sums.{prefix_len_stops}
-use Rattle.std.specs.List.{list_any, prefix_len}
-use Rattle.std.specs.Option.{option_or}
-use Rattle.std.specs.Prelude.{Bool, List, None, Option, Some, [], false, get_or, if◌then◌else◌, length, max, nat_lt, not, option_map, position, suc, true, unwrap_or, zero, ℕ, ◌+◌, ◌<◌, ◌∷◌, ◌≡◌, ◌≤◌, ◌||◌}
 
 -- what stands at a place is among the list
 pub any_at : {A : Type 0} (p : A → Bool) (xs : List A) (k : ℕ) (d : A) → k < length xs → p (get_or xs k d) ≡ true → list_any p xs ≡ true

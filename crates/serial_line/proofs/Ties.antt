@@ -1,23 +1,9 @@
 -- How each call of a line keeps it the line that a layer above means, and what its answers then say.
 -- The words on items are those of the reading of a history, written alike, so that these lemmas are about its words too.
-use Rattle.command_rules.specs.ClosedSets.{chosen, others, rearranged}
-use Rattle.command_rules.specs.Items.{is_ran, of_run}
-use Rattle.home_types.specs.declared.items.Item.TheVariants.{Back, Failed, Ran}
-use Rattle.home_types.specs.declared.items.Item.{Item}
-use Rattle.home_types.specs.declared.numbers.RunNo.{RunNo}
-use Rattle.home_types.proofs.Cited.{contains_insert}
+use Rattle.serial_line.proofs.Prelude.{Back, Bool, Failed, Item, List, Mark, None, Ran, RunNo, Some, [], ap, arith, chosen, common_steps, cond, contains_insert, drop, drop-map, false, filter, front_of, if◌then◌else◌, insert, is_item, is_ran, items_of, last_place, list_any, map-append, mark_has_touched, marks_without, nat_cmp, not, of_run, option_map, option_or, others, rearranged, refl, settling, suc, sym, take, take-map, touching, true, untouched, with_end, with_item, with_touch, zero, ℕ, ◌&&◌, ◌++◌, ◌+◌, ◌==◌, ◌||◌, ◌∙◌, ◌∷◌, ◌≡◌}
 use Rattle.serial_line.proofs.Searches.{up_to_first}
-use Rattle.serial_line.specs.Marks.{Mark, front_of, is_item, items_of, mark_has_touched, marks_without, settling, touching, untouched, with_end, with_item, with_touch}
-use Rattle.command_rules.specs.Searches.{last_place}
 use Rattle.serial_line.specs.Ties.{Each, EndsAs, IsLineOf, TouchesAs}
-use Rattle.std.proofs.Common.{ap, arith, cond, refl, sym, ◌∙◌}
-use Rattle.std.proofs.lemmas.Grind.{common_steps}
-use Rattle.std.proofs.lemmas.List.{drop-map, map-append, take-map}
 use Rattle.std.specs.FinSet as set
-use Rattle.std.specs.List.{list_any}
-use Rattle.std.specs.Option.{option_or}
-use Rattle.std.specs.Ordering.{nat_cmp}
-use Rattle.std.specs.Prelude.{Bool, List, None, Some, [], drop, false, filter, if◌then◌else◌, insert, not, option_map, suc, take, true, zero, ℕ, ◌&&◌, ◌+◌, ◌++◌, ◌==◌, ◌||◌, ◌∷◌, ◌≡◌}
 
 -- an empty line has no items
 pub line_empty : (touched : Item → ℕ → Bool) (ended : ℕ → Bool) → IsLineOf [] touched ended []

@@ -1,16 +1,13 @@
 -- What a command or an item leaves of a refusal, and the devices of a run's commands.
-use Rattle.command_rules.specs.Rosters.{Run, commands_of, plain_run, runs_of}
-use Rattle.command_rules.specs.Serial.{SerialRun, serve}
+use Rattle.serial_meaning.proofs.Prelude.{All, Execution, List, None, Option, Run, SerialRun, Some, [], arith, commands_of, execute, option_map, plain_run, refl, runs_of, serve, slice_get, slice_index_or, suc, true, unwrap_or, zero, ℕ, ◌≡◌}
 use Rattle.command_rules.specs.declared.rosters.Roster.{Roster}
 use Rattle.command_rules.specs.declared.rosters.RosterRun.{RosterRun}
-use Rattle.home_types.specs.Commands.{Execution, execute}
 use Rattle.home_types.specs.declared.commands.Command.{Command}
 use Rattle.home_types.specs.declared.items.Item.TheVariants.{Back, Failed, Ran}
 use Rattle.home_types.specs.declared.items.Item.{Item}
 use Rattle.home_types.specs.declared.kinds.Kind.{Kind}
 use Rattle.home_types.specs.declared.worlds.Stand.{Stand}
 use Rattle.serial_meaning.specs.Conditions.{HasDevices, HasRosterDevices}
-use Rattle.std.proofs.Common.{All, List, None, Option, Some, [], arith, option_map, refl, slice_get, slice_index_or, suc, true, unwrap_or, zero, ℕ, ◌≡◌}
 use Rattle.std.proofs.lemmas.Option.{get_or_from_slice_get, slice_get-map, slice_get_within}
 
 -- an execution that is refused stays so at a command

@@ -1,3 +1,4 @@
+mod Prelude
 mod Refusals
 mod Items
 pub mod Cited

@@ -1,5 +1,5 @@
 -- Folds that may be refused: a refused state stays so, whatever comes.
-use Rattle.std.proofs.Common.{Bool, List, None, Option, Some, [], ap, drop, false, fold, get_or, if◌then◌else◌, length, refl, true, ℕ, ◌+◌, ◌<◌, ◌∙◌, ◌≡◌, ◌∷◌}
+use Rattle.serial_meaning.proofs.Prelude.{Bool, List, None, Option, Some, [], ap, drop, false, fold, get_or, if◌then◌else◌, length, refl, true, ℕ, ◌+◌, ◌<◌, ◌∙◌, ◌∷◌, ◌≡◌}
 use Rattle.std.proofs.lemmas.List.{at_drop_more}
 
 goes_on : {S : Type 0} (refused : Bool) (s next : S) → Some next ≡ (if refused then None else Some s) → s ≡ next

@@ -1,3 +1,4 @@
+mod Prelude
 mod Publishings
 mod Steps
 pub mod Cited

@@ -1,8 +1,6 @@
 -- Lists of publishings that grow.
-use Rattle.std.proofs.Common.{◌≡◌, ◌<◌, ◌+◌, ℕ, zero, suc, List, [], ◌∷◌, ◌++◌, length, take, get_or, All, true, false, true≢false, refl, sym, ap, ◌∙◌, subst, arith, append_assoc, length-append}
+use Rattle.status_board.proofs.Prelude.{All, Counts, IsNotBelow, List, RisesFrom, StartsWith, [], ap, append_assoc, arith, false, get_or, last_from, last_of, length, length-append, nothing, refl, subst, suc, sym, take, true, true≢false, zero, ℕ, ◌++◌, ◌+◌, ◌<◌, ◌∙◌, ◌∷◌, ◌≡◌}
 use Rattle.std.proofs.lemmas.List.{append-nil, take_more}
-use Rattle.status_board.specs.declared.day_counts.Counts.{Counts}
-use Rattle.status_board.specs.Publishings.{nothing, last_of, last_from, RisesFrom, IsNotBelow, StartsWith}
 
 -- no number of the second is smaller, twice
 pub not_below_on : (a b c : Counts) → IsNotBelow a b → IsNotBelow b c → IsNotBelow a c

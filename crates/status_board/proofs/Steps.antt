@@ -1,13 +1,9 @@
 -- Each step keeps the rule.
-use Rattle.std.proofs.Common.{◌≡◌, ◌≢◌, ℕ, zero, suc, List, [], ◌∷◌, ◌++◌, set, true, false, true≢false, refl, sym, ap, ◌∙◌, subst, ⊎_elim}
+use Rattle.status_board.proofs.Prelude.{Counts, HasLooked, HasPublished, IsNotBelow, KnowsABeginning, List, PassView, StartsWith, ViewsAreKept, [], ap, false, last_of, meeting, nothing, publishing, refl, set, subst, suc, sym, true, true≢false, watching, zero, ℕ, ⊎_elim, ◌++◌, ◌∙◌, ◌∷◌, ◌≡◌, ◌≢◌}
 use mathlib.Core.Option.{some, some-ne-none, some-injective}
 use lib.ListN.{get_elem?}
 use Rattle.crossbeam_utils.specs.Register.{Turns, Forks, Merges}
 use Rattle.atomic_table.proofs.Lists.{at_set, at_snoc, set_again}
-use Rattle.status_board.specs.declared.day_counts.Counts.{Counts}
-use Rattle.status_board.specs.declared.passes.PassView.{PassView}
-use Rattle.status_board.specs.Publishings.{nothing, last_of, IsNotBelow, StartsWith}
-use Rattle.status_board.specs.Views.{publishing, watching, meeting, KnowsABeginning, ViewsAreKept, HasPublished, HasLooked}
 use Rattle.status_board.proofs.Publishings.{last_more, rises_more, starts_same, starts_none, starts_more}
 
 off : false ≡ true → ⊥

@@ -5,12 +5,8 @@ use Rattle.home_types.specs.declared.items.Item.TheVariants.{Back, Failed, Ran}
 use Rattle.home_types.specs.declared.items.Item.{Item}
 use Rattle.home_types.specs.declared.worlds.Stand.{Stand}
 use Rattle.serial_meaning.specs.Conditions.{IsItemOf}
-use Rattle.std.proofs.Common.{arith, refl}
-use Rattle.std.proofs.lemmas.Grind.{common_steps}
+use Rattle.step_table.proofs.Prelude.{All, Bool, IsTrue, List, [], arith, common_steps, false, is_some, item_fits, length, list_all, nat_le, nat_lt, refl, slice_get, slice_index_or, suc, true, zero, ℕ, ◌&&◌, ◌<◌, ◌∷◌, ◌≡◌, ◌≤◌}
 use Rattle.std.proofs.lemmas.List.{length-map}
-use Rattle.std.specs.List.{list_all}
-use Rattle.std.specs.Prelude.{All, Bool, IsTrue, List, [], false, is_some, length, nat_le, nat_lt, slice_get, slice_index_or, suc, true, zero, ℕ, ◌&&◌, ◌<◌, ◌∷◌, ◌≡◌, ◌≤◌}
-use Rattle.step_table.specs.Orders.{item_fits}
 
 first : (a b : Bool) → (a && b) ≡ true → a ≡ true
 first true b both = refl

@@ -1,10 +1,6 @@
 -- A window that was just opened has all its rounds of probes.
 use Rattle.history_book.specs.Settings.{is_device}
-use Rattle.hub_core.specs.OpenHubs.{OpenHub, configuration_of}
-use Rattle.hub_core.specs.Steps.{opened}
-use Rattle.std.proofs.Common.{ap, arith, ◌∙◌}
-use Rattle.std.proofs.lemmas.Grind.{common_steps}
-use Rattle.std.specs.Prelude.{if◌then◌else◌, length, true, ℕ, ◌<◌, ◌≡◌, ◌≤◌}
+use Rattle.step_table.proofs.Prelude.{OpenHub, ap, arith, common_steps, configuration_of, if◌then◌else◌, length, opened, true, ℕ, ◌<◌, ◌∙◌, ◌≡◌, ◌≤◌}
 
 pub rounds_are : {D : Type 0} (hub : OpenHub D) (rounds : ℕ) → configuration_of hub ≡ opened hub.setting hub.rounds → hub.rounds ≡ rounds → (d : ℕ) → d < length hub.setting.first → (configuration_of hub).probes d ≡ rounds
 rounds_are hub rounds fresh is d low =

@@ -1,2 +1,3 @@
 mod FittingOrders
 mod FreshWindows
+mod Prelude

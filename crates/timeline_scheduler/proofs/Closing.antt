@@ -1,9 +1,5 @@
 -- A set closed item by item, from the last one on.
-use Rattle.command_rules.specs.ClosedSets.{chosen, closure}
-use Rattle.std.proofs.Common.{ap, ap₂, arith, refl, subst, sym, ◌∙◌}
-use Rattle.std.proofs.lemmas.List.{drop_all, drop_more, length-set}
-use Rattle.std.specs.List.{list_any}
-use Rattle.std.specs.Prelude.{Bool, List, [], drop, false, if◌then◌else◌, length, slice_index_or, slice_set, suc, take, true, zero, ℕ, ◌++◌, ◌+◌, ◌<◌, ◌||◌, ◌∷◌, ◌≡◌, ◌≤◌}
+use Rattle.timeline_scheduler.proofs.Prelude.{Bool, List, [], ap, ap₂, arith, chosen, closure, drop, drop_all, drop_more, false, if◌then◌else◌, length, length-set, list_any, refl, slice_index_or, slice_set, subst, suc, sym, take, true, zero, ℕ, ◌++◌, ◌+◌, ◌<◌, ◌||◌, ◌∙◌, ◌∷◌, ◌≡◌, ◌≤◌}
 
 -- Parts of a list with an item changed
 

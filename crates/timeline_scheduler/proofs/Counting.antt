@@ -1,8 +1,5 @@
 -- How many items a set has, and how many it leaves outside.
-use Rattle.command_rules.specs.ClosedSets.{IsPart, chosen}
-use Rattle.std.proofs.Common.{arith, cond, refl}
-use Rattle.std.proofs.lemmas.List.Sums.{sum_by-cons}
-use Rattle.std.specs.Prelude.{Bool, List, [], count_by, false, length, not, true, ◌+◌, ◌∷◌, ◌≡◌, ◌≤◌}
+use Rattle.timeline_scheduler.proofs.Prelude.{Bool, IsPart, List, [], arith, chosen, cond, count_by, false, length, not, refl, sum_by-cons, true, ◌+◌, ◌∷◌, ◌≡◌, ◌≤◌}
 
 count_first : (b : Bool) (bs : List Bool) → count_by (λ c. c) (b ∷ bs) ≡ cond b 1 0 + count_by (λ c. c) bs
 count_first b bs = sum_by-cons (λ c. cond c 1 0) b bs

@@ -1,8 +1,5 @@
 -- The devices of which a test holds, found by a walk from one to the next.
-use Rattle.home_types.specs.DeviceSets.{IsFirstFrom}
-use Rattle.std.proofs.Common.{ap, ap₂, arith, cond, sym, ◌∙◌}
-use Rattle.std.specs.List.{list_any, range_with_len}
-use Rattle.std.specs.Prelude.{Bool, List, None, Some, [], false, filter, fold, suc, true, zero, ℕ, ◌+◌, ◌-◌, ◌<◌, ◌||◌, ◌∷◌, ◌≡◌, ◌≤◌}
+use Rattle.timeline_scheduler.proofs.Prelude.{Bool, IsFirstFrom, List, None, Some, [], ap, ap₂, arith, cond, false, filter, fold, list_any, range_with_len, suc, sym, true, zero, ℕ, ◌+◌, ◌-◌, ◌<◌, ◌||◌, ◌∙◌, ◌∷◌, ◌≡◌, ◌≤◌}
 
 -- those of so many devices that are left from this one on
 abbrev pub rest : (ℕ → Bool) → ℕ → ℕ → List ℕ

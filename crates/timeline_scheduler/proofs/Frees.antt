@@ -1,28 +1,8 @@
 -- When a device is free for a run behind the items of a set, and what the access of a run of the set tells of that.
-use Rattle.command_rules.specs.Items.{is_ran}
-use Rattle.command_rules.specs.Rosters.{reads_first, writes_on}
-use Rattle.history_book.specs.Plans.{free, planned_end, whole_end}
-use Rattle.history_book.specs.Readings.{Reading, is_doomed, is_live, is_open}
-use Rattle.history_book.specs.Settings.{Setting}
-use Rattle.home_types.specs.declared.items.Item.TheVariants.{Back, Failed, Ran}
-use Rattle.home_types.specs.declared.items.Item.{Item}
+use Rattle.timeline_scheduler.proofs.Prelude.{Access, Alone, Back, Bool, EachTail, Facts, Failed, Grips, HasAccess, Item, List, None, Ran, Reading, RunNo, Setting, Slot, Some, [], access_of, and_parts, ap, arith, common_steps, cond, covers, eq-eqb, false, fold-append, free, has_access, if◌then◌else◌, is_doomed, is_live, is_of, is_open, is_ran, is_released, list_any, map, max, nat_lt, not, or_from, or_left, or_parts, or_right, planned_end, point, reads_first, refl, slot_behind, slot_waiting, sound_holds, subst, sym, true, whole_end, writes_on, ℕ, ◌&&◌, ◌++◌, ◌==◌, ◌||◌, ◌∙◌, ◌∷◌, ◌≡◌}
 use Rattle.home_types.specs.declared.numbers.DeviceNo.{DeviceNo}
-use Rattle.home_types.specs.declared.numbers.RunNo.{RunNo}
-use Rattle.lineage_table.specs.Accesses.{access_of, has_access, is_of, is_released}
-use Rattle.lineage_table.specs.declared.accesses.Access.{Access}
-use Rattle.lock_leasing.proofs.Cited.{Alone, EachTail, Facts, HasAccess, sound_holds}
-use Rattle.lock_leasing.specs.Configurations.{Grips, point}
-use Rattle.lock_leasing.specs.Order.{covers}
 use Rattle.lock_leasing.specs.Tables.{EachTellsOfRun, TellsOfRun, runs_with_access, uses}
 use Rattle.lock_leasing.specs.Words.{has_effect, holds_device}
-use Rattle.std.proofs.Common.{ap, arith, cond, refl, subst, sym, ◌∙◌}
-use Rattle.std.proofs.lemmas.Bool.{and_parts, eq-eqb, or_from, or_left, or_parts, or_right}
-use Rattle.std.proofs.lemmas.Grind.{common_steps}
-use Rattle.std.proofs.lemmas.List.Sums.{fold-append}
-use Rattle.std.specs.List.{list_any}
-use Rattle.std.specs.Prelude.{Bool, List, None, Some, [], false, if◌then◌else◌, map, max, nat_lt, not, true, ℕ, ◌&&◌, ◌++◌, ◌==◌, ◌||◌, ◌∷◌, ◌≡◌}
-use Rattle.timeline_scheduler.specs.Slots.{slot_behind, slot_waiting}
-use Rattle.timeline_scheduler.specs.declared.slots.Slot.{Slot}
 
 -- What stands behind a run of a line in which no run stands twice
 

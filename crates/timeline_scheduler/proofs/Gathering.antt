@@ -1,25 +1,10 @@
 -- An item meets one of some items where their devices, the runs among them and those that these follow tell it.
-use Rattle.command_rules.proofs.Cited.{both_touch}
-use Rattle.command_rules.specs.Apart.{are_tied, meet, share_device}
-use Rattle.command_rules.specs.Items.{is_ran, of_run}
-use Rattle.command_rules.specs.Rosters.{Run, commands_of, followed_by, follows, touches}
+use Rattle.timeline_scheduler.proofs.Prelude.{Back, Bool, Command, Devices, Failed, IsGathered, IsTrue, Item, List, Meet, None, Option, Ran, Run, RunNo, Some, [], ap, ap₂, are_tied, arith, both_touch, commands_of, common_steps, eq-eqb, false, followed_by, follows, get_or-set_other, get_or-set_same, is_ran, length, list_any, meet, of_run, option_map, or_left, or_right, refl, replicate, share_device, slice_index_or, slice_set, suc, sym, touches, true, unwrap_or, zero, ℕ, ◌<◌, ◌==◌, ◌||◌, ◌↔◌, ◌∙◌, ◌∷◌, ◌≡◌, ◌≢◌}
 use Rattle.history_book.specs.Lines.{is_item_on}
 use Rattle.home_types.proofs.Cited.{contains_insert}
-use Rattle.home_types.specs.DeviceSets.{Devices, Meet}
-use Rattle.home_types.specs.declared.commands.Command.{Command}
-use Rattle.home_types.specs.declared.items.Item.TheVariants.{Back, Failed, Ran}
-use Rattle.home_types.specs.declared.items.Item.{Item}
 use Rattle.home_types.specs.declared.numbers.DeviceNo.{DeviceNo}
-use Rattle.home_types.specs.declared.numbers.RunNo.{RunNo}
-use Rattle.std.proofs.Common.{ap, ap₂, arith, refl, sym, ◌∙◌}
-use Rattle.std.proofs.lemmas.Bool.{eq-eqb, or_left, or_right}
-use Rattle.std.proofs.lemmas.Grind.{common_steps}
-use Rattle.std.proofs.lemmas.List.{get_or-set_other, get_or-set_same}
 use Rattle.std.specs.FinSet as set
-use Rattle.std.specs.List.{list_any}
 use Rattle.std.specs.Ordering.{nat_cmp}
-use Rattle.std.specs.Prelude.{Bool, IsTrue, List, None, Option, Some, [], false, length, option_map, replicate, slice_index_or, slice_set, suc, true, unwrap_or, zero, ℕ, ◌<◌, ◌==◌, ◌||◌, ◌↔◌, ◌∷◌, ◌≡◌, ◌≢◌}
-use Rattle.timeline_scheduler.specs.Gathered.{IsGathered}
 use Rattle.timeline_scheduler.specs.declared.gathered.Gathered.{Gathered}
 
 both_ways : (a b : Bool) → (a ≡ true → b ≡ true) → (b ≡ true → a ≡ true) → a ≡ b

@@ -1,20 +1,6 @@
 -- The times that slots hold as the commands of a run are planned.
-use Rattle.command_rules.specs.Rosters.{Run, commands_of, is_on}
-use Rattle.history_book.specs.Plans.{greatest, plan_more, planned_end}
-use Rattle.history_book.specs.Readings.{Planned}
-use Rattle.home_types.specs.declared.commands.Command.{Command}
-use Rattle.std.proofs.Common.{ap, arith, cond, refl, subst, sym, ◌∙◌}
-use Rattle.std.proofs.lemmas.Bool.{eq-eqb, or_left, or_right}
-use Rattle.std.proofs.lemmas.Grind.{common_steps}
-use Rattle.std.proofs.lemmas.List.Folds.{list_any-append}
-use Rattle.std.proofs.lemmas.List.Sums.{fold-append}
-use Rattle.std.proofs.lemmas.List.{drop_all, drop_more, get_or_default, length-set}
-use Rattle.std.specs.List.{list_any}
-use Rattle.std.specs.Prelude.{Bool, List, None, Option, Some, [], drop, false, find, fold, if◌then◌else◌, length, max, min, option_map, slice_index_or, slice_set, suc, true, unwrap_or, zero, ℕ, ◌++◌, ◌+◌, ◌<◌, ◌==◌, ◌||◌, ◌∷◌, ◌≡◌, ◌≢◌, ◌≤◌}
+use Rattle.timeline_scheduler.proofs.Prelude.{Bool, Command, HoldsTimes, List, None, Option, Planned, Run, RunsAreHomed, Slot, Some, [], ap, arith, commands_of, common_steps, cond, drop, drop_all, drop_more, eq-eqb, false, find, fold, fold-append, get_or_default, greatest, if◌then◌else◌, is_on, length, length-set, list_any, list_any-append, max, min, option_map, or_left, or_right, plan_behind, plan_more, planned_end, planned_in, planned_span, refl, slice_index_or, slice_set, slot_at, subst, suc, sym, true, unwrap_or, used_again, zero, ℕ, ◌++◌, ◌+◌, ◌<◌, ◌==◌, ◌||◌, ◌∙◌, ◌∷◌, ◌≡◌, ◌≢◌, ◌≤◌}
 use Rattle.timeline_scheduler.proofs.SlotSets.{set_here, set_other, slot_read}
-use Rattle.timeline_scheduler.specs.Scratches.{HoldsTimes, planned_in, planned_span}
-use Rattle.timeline_scheduler.specs.Slots.{RunsAreHomed, plan_behind, slot_at, used_again}
-use Rattle.timeline_scheduler.specs.declared.slots.Slot.{Slot}
 
 -- the times are those of the slot
 pub planned_in_slot : (slots : List Slot) (d : ℕ) → planned_in slots d ≡ (slot_at slots d).planned

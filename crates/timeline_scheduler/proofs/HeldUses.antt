@@ -1,20 +1,8 @@
 -- The uses of the devices of a run's commands, as the scratch takes them in command after command.
-use Rattle.command_rules.specs.Rosters.{is_on}
-use Rattle.history_book.proofs.Cited.{among_more, differ, is_among}
-use Rattle.history_book.specs.Plans.{planned_end, planned_start}
-use Rattle.history_book.specs.Readings.{Planned}
+use Rattle.timeline_scheduler.proofs.Prelude.{Bool, Command, HoldsTimes, List, None, Option, Planned, Slot, Some, among_more, ap, arith, differ, eqb-true, false, get_or, get_or-set_other, get_or-set_same, if◌then◌else◌, is_among, is_on, length, length-set, list_any, option_map, planned_end, planned_in, planned_start, planned_use, refl, set, slice_get, subst, sym, take_all, true, use_between, ℕ, ◌+◌, ◌<◌, ◌==◌, ◌||◌, ◌∙◌, ◌≡◌, ◌≤◌}
 use Rattle.history_book.specs.declared.planned_uses.PlannedUse.{PlannedUse}
-use Rattle.home_types.specs.declared.commands.Command.{Command}
-use Rattle.std.proofs.Common.{ap, arith, refl, set, subst, sym, ◌∙◌}
 use Rattle.std.proofs.Math.Bool.{or-false}
-use Rattle.std.proofs.lemmas.Bool.{eqb-true}
-use Rattle.std.proofs.lemmas.List.{get_or-set_other, get_or-set_same, length-set, take_all}
 use Rattle.std.proofs.lemmas.Option.{slice_get-get_or}
-use Rattle.std.specs.List.{list_any}
-use Rattle.std.specs.Prelude.{Bool, List, None, Option, Some, false, get_or, if◌then◌else◌, length, option_map, slice_get, true, ℕ, ◌+◌, ◌<◌, ◌==◌, ◌||◌, ◌≡◌, ◌≤◌}
-use Rattle.timeline_scheduler.specs.PlannedUses.{planned_use, use_between}
-use Rattle.timeline_scheduler.specs.Scratches.{HoldsTimes, planned_in}
-use Rattle.timeline_scheduler.specs.declared.slots.Slot.{Slot}
 
 -- on the devices of the first so many commands the uses are these
 pub record AreSetTo (k : ℕ) (commands : List Command) (value : ℕ → Option PlannedUse) (uses : List (Option PlannedUse)) : Type 0 where

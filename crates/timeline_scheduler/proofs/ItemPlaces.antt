@@ -1,8 +1,5 @@
 -- The item at a place of a line, and at one of a list.
-use Rattle.home_types.specs.declared.items.Item.{Item}
-use Rattle.serial_line.specs.Marks.{Mark, items_of}
-use Rattle.std.proofs.Common.{arith, rules, subst, sym}
-use Rattle.std.specs.Prelude.{IsSome, List, Option, Some, [], length, slice_get, slice_index_or, suc, zero, ℕ, ◌<◌, ◌∷◌, ◌≡◌}
+use Rattle.timeline_scheduler.proofs.Prelude.{IsSome, Item, List, Mark, Option, Some, [], arith, items_of, length, rules, slice_get, slice_index_or, subst, suc, sym, zero, ℕ, ◌<◌, ◌∷◌, ◌≡◌}
 
 -- there is one at each place of the line
 pub item_there : (marks : List Mark) (k : ℕ) (o : Option Item) → o ≡ slice_get (items_of marks) k → k < length marks → IsSome o

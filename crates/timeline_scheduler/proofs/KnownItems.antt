@@ -1,21 +1,7 @@
 -- The items of a line are runs of the roster and events of the home's devices.
-use Rattle.command_rules.proofs.Cited.{device_below}
-use Rattle.command_rules.specs.Rosters.{Run, commands_of, is_run, touches}
-use Rattle.history_book.proofs.Cited.{is_stray, none_strays}
+use Rattle.timeline_scheduler.proofs.Prelude.{Back, Bool, Configuration, Failed, IsKnown, IsRosterFor, IsStandingOf, IsTrue, Item, ItemsAreKnown, List, MayPlan, Ran, Run, RunsAreHomed, Setting, Some, WindowParts, [], ap, arith, commands_of, common_steps, device_below, false, is_run, is_some, is_stray, items_of, length, list_any, none_strays, read_of, slice_get, subst, suc, sym, touches, true, zero, ℕ, ◌<◌, ◌||◌, ◌∙◌, ◌∷◌, ◌≡◌, ◌≤◌}
 use Rattle.history_book.specs.Histories.{entries_of}
-use Rattle.history_book.specs.Settings.{Setting}
-use Rattle.home_types.specs.declared.items.Item.TheVariants.{Back, Failed, Ran}
-use Rattle.home_types.specs.declared.items.Item.{Item}
-use Rattle.lock_leasing.specs.Configurations.{Configuration, read_of}
-use Rattle.lock_leasing.specs.Standings.{IsRosterFor, IsStandingOf, WindowParts}
-use Rattle.serial_line.specs.Marks.{items_of}
-use Rattle.std.proofs.Common.{ap, arith, subst, sym, ◌∙◌}
-use Rattle.std.proofs.lemmas.Grind.{common_steps}
-use Rattle.std.specs.List.{list_any}
-use Rattle.std.specs.Prelude.{Bool, IsTrue, List, Some, [], false, is_some, length, slice_get, suc, true, zero, ℕ, ◌<◌, ◌||◌, ◌∷◌, ◌≡◌, ◌≤◌}
-use Rattle.timeline_scheduler.specs.Gathered.{IsKnown, ItemsAreKnown}
-use Rattle.timeline_scheduler.specs.Placings.{MayPlan, Planning}
-use Rattle.timeline_scheduler.specs.Slots.{RunsAreHomed}
+use Rattle.timeline_scheduler.specs.Placings.{Planning}
 
 -- what none of a list is, the one at a place is not
 not_at : {A : Type 0} (p : A → Bool) (xs : List A) (k : ℕ) (x : A) → list_any p xs ≡ false → slice_get xs k ≡ Some x → p x ≡ false

@@ -10,6 +10,7 @@ mod ItemPlaces
 mod KnownItems
 mod Overlaps
 mod Passes
+mod Prelude
 mod Rounds
 mod SlotSets
 mod Taking

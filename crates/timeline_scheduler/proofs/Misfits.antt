@@ -1,37 +1,10 @@
 -- The runs outside of a set that do not fit, as slots and table tell them.
-use Rattle.command_rules.proofs.Cited.{of_one_device}
-use Rattle.command_rules.specs.Apart.{meet}
-use Rattle.command_rules.specs.ClosedSets.{IsClosed, IsPart, chosen, either_of}
-use Rattle.command_rules.specs.Items.{of_run}
-use Rattle.command_rules.specs.Rosters.{commands_of, follows, is_on, touches}
+use Rattle.timeline_scheduler.proofs.Prelude.{Access, Alone, Back, Bool, Command, EachTail, Facts, Failed, Fcfs, Grips, HoldsTimes, IsClosed, IsPart, Item, JustInTime, LineageState, List, None, Option, Planned, Planning, Ran, Reading, RunNo, Setting, Slot, Some, Timeline, [], access_of, accesses_at, alone, any_range, ap, append_assoc, ap₂, arith, chosen, commands_of, common_steps, cond, covers, device_numbers, devices_among, devices_of, did, either_of, eq-eqb, false, filter, fold, follows, free, greatest, has_written, if◌then◌else◌, is_committed, is_live, is_misfit, is_next_on, is_on, length, list_any, list_any-append, map, max, meet, min, nat_lt, not, of_one_device, of_run, or_left, or_right, overlaps, passed_by, plan_behind, plan_more, planned_end, planned_start, planned_times, range_with_len, refl, scheduler_of, slot_at, subst, suc, sym, touches, true, written_did, written_touches, zero, ℕ, ◌&&◌, ◌++◌, ◌+◌, ◌<◌, ◌==◌, ◌||◌, ◌∙◌, ◌∷◌, ◌≡◌, ◌≤◌}
 use Rattle.history_book.specs.Gaps.{base_flags, is_needed, is_overlapped}
-use Rattle.history_book.specs.Plans.{Planning, free, greatest, plan_more, planned_end, planned_start, planned_times}
-use Rattle.history_book.specs.Readings.{Planned, Reading, did, has_written, is_committed, is_live, is_next_on, passed_by}
-use Rattle.history_book.specs.Settings.{Setting, device_numbers, devices_of, scheduler_of}
-use Rattle.home_types.specs.declared.commands.Command.{Command}
-use Rattle.home_types.specs.declared.items.Item.TheVariants.{Back, Failed, Ran}
-use Rattle.home_types.specs.declared.items.Item.{Item}
-use Rattle.home_types.specs.declared.modes.Scheduler.TheVariants.{Fcfs, JustInTime, Timeline}
 use Rattle.home_types.specs.declared.modes.Scheduler.{Scheduler}
-use Rattle.home_types.specs.declared.numbers.RunNo.{RunNo}
-use Rattle.lineage_table.specs.Accesses.{access_of}
-use Rattle.lineage_table.specs.Lineages.{LineageState, accesses_at}
-use Rattle.lineage_table.specs.declared.accesses.Access.{Access}
-use Rattle.lock_leasing.proofs.Cited.{Alone, EachTail, Facts, alone, any_range, written_did, written_touches}
-use Rattle.lock_leasing.specs.Configurations.{Grips}
-use Rattle.lock_leasing.specs.Order.{covers}
 use Rattle.lock_leasing.specs.Tables.{uses}
-use Rattle.std.proofs.Common.{ap, ap₂, append_assoc, arith, cond, refl, subst, sym, ◌∙◌}
-use Rattle.std.proofs.lemmas.Bool.{eq-eqb, or_left, or_right}
-use Rattle.std.proofs.lemmas.Grind.{common_steps}
-use Rattle.std.proofs.lemmas.List.Folds.{list_any-append}
-use Rattle.std.specs.List.{list_any, range_with_len}
-use Rattle.std.specs.Prelude.{Bool, List, None, Option, Some, [], false, filter, fold, if◌then◌else◌, length, map, max, min, nat_lt, not, suc, true, zero, ℕ, ◌&&◌, ◌++◌, ◌+◌, ◌<◌, ◌==◌, ◌||◌, ◌∷◌, ◌≡◌, ◌≤◌}
 use Rattle.timeline_scheduler.proofs.Frees.{AreOfLine, Found, Other, Own, found_in}
 use Rattle.timeline_scheduler.proofs.HeldTimes.{planned_in_slot}
-use Rattle.timeline_scheduler.specs.Scratches.{HoldsTimes}
-use Rattle.timeline_scheduler.specs.Slots.{devices_among, is_misfit, overlaps, plan_behind, slot_at}
-use Rattle.timeline_scheduler.specs.declared.slots.Slot.{Slot}
 
 -- Plans
 

@@ -1,32 +1,14 @@
 -- The items that must stand before a run, as line, history and roster tell them, are those of the base.
-use Rattle.command_rules.specs.Items.{of_run}
-use Rattle.command_rules.specs.Rosters.{Run, commands_of, follows, is_on, touches}
-use Rattle.history_book.proofs.Cited.{answer_count_is, asks_next, end_is, stands_in}
-use Rattle.history_book.specs.Books.{answer_count, end_of}
+use Rattle.timeline_scheduler.proofs.Prelude.{Back, Bool, Command, Configuration, Devices, Facts, Failed, Grips, IsRosterFor, IsStandingOf, IsTrue, Item, List, Mark, None, OfRun, Option, Ran, Reading, Run, RunNo, Setting, Some, WindowParts, [], answer_count, answer_count_is, any_filter, any_range, ap, ap₂, arith, asks_next, asks_on, command_out, commands_of, common_steps, device_numbers, devices_by_commands, devices_of, did, end_is, end_of, facts_of, false, follows, front_of, goes_on, grips_command, has_ended, if◌then◌else◌, is_committing, is_live, is_next_on, is_none, is_on, is_open_run, is_some, item_has_touched, items_of, length, list_any, map, meets, nat_lt, next_of, not, of_run, option_map, read_of, refl, run_binds, seeds, slice_get, stands_in, suc, sym, touches, true, unwrap_or, zero, ℕ, ◌&&◌, ◌+◌, ◌<◌, ◌==◌, ◌||◌, ◌∙◌, ◌∷◌, ◌≡◌, ◌≤◌}
 use Rattle.history_book.specs.Gaps as gaps
-use Rattle.history_book.specs.Readings.{OfRun, Reading, asks_on, did, is_committing, is_live, is_next_on, next_of}
-use Rattle.history_book.specs.Settings.{Setting, device_numbers, devices_of}
 use Rattle.history_book.specs.declared.entries.End.TheVariants.{Aborted, Committed}
 use Rattle.history_book.specs.declared.entries.End.{End}
 use Rattle.history_book.specs.declared.entries.Kept.{Kept}
-use Rattle.home_types.specs.DeviceSets.{Devices}
-use Rattle.home_types.specs.declared.commands.Command.{Command}
-use Rattle.home_types.specs.declared.items.Item.TheVariants.{Back, Failed, Ran}
-use Rattle.home_types.specs.declared.items.Item.{Item}
-use Rattle.home_types.specs.declared.numbers.RunNo.{RunNo}
-use Rattle.lock_leasing.proofs.Cited.{Facts, any_filter, any_range, command_out, devices_by_commands, facts_of}
-use Rattle.lock_leasing.specs.Configurations.{Configuration, Grips, grips_command, read_of}
-use Rattle.lock_leasing.specs.Standings.{IsRosterFor, IsStandingOf, WindowParts, has_ended, item_has_touched}
 use Rattle.lock_leasing.specs.Words.{has_touched}
 use Rattle.serial_line.proofs.Cited.{meets_by}
-use Rattle.serial_line.specs.Marks.{Mark, front_of, is_open_run, items_of, meets}
 use Rattle.serial_line.specs.Ties.{Each, EndsAs, TouchesAs}
-use Rattle.std.proofs.Common.{ap, ap₂, arith, refl, sym, ◌∙◌}
-use Rattle.std.proofs.lemmas.Grind.{common_steps}
 use Rattle.std.specs.FinSet as set
-use Rattle.std.specs.List.{list_any}
-use Rattle.std.specs.Prelude.{Bool, IsTrue, List, None, Option, Some, [], false, if◌then◌else◌, is_none, is_some, length, map, nat_lt, not, option_map, slice_get, suc, true, unwrap_or, zero, ℕ, ◌&&◌, ◌+◌, ◌<◌, ◌==◌, ◌||◌, ◌∷◌, ◌≡◌, ◌≤◌}
-use Rattle.timeline_scheduler.specs.Bases.{goes_on, is_needed, run_binds, seeds}
+use Rattle.timeline_scheduler.specs.Bases.{is_needed}
 
 -- Flags one by one
 

@@ -1,14 +1,7 @@
 -- The devices of a run to which another one has an access.
-use Rattle.command_rules.specs.Rosters.{Run, touches}
-use Rattle.lineage_table.specs.Accesses.{access_of, has_access}
-use Rattle.lineage_table.specs.Lineages.{LineageState, accesses_at}
-use Rattle.std.proofs.Common.{ap, arith, cond, refl, sym, ◌∙◌}
-use Rattle.std.specs.List.{list_any, range_with_len}
-use Rattle.std.specs.Prelude.{Bool, List, [], false, filter, length, true, ℕ, ◌&&◌, ◌-◌, ◌||◌, ◌∷◌, ◌≡◌}
+use Rattle.timeline_scheduler.proofs.Prelude.{Bool, LineageState, List, Run, Slot, [], access_of, accesses_at, ap, arith, cond, false, filter, has_access, is_misfit, length, list_any, overlaps, range_with_len, refl, slot_at, sym, touches, true, ℕ, ◌&&◌, ◌-◌, ◌||◌, ◌∙◌, ◌∷◌, ◌≡◌}
 use Rattle.timeline_scheduler.proofs.DeviceWalks.{rest}
 use Rattle.timeline_scheduler.proofs.Frees.{none_of}
-use Rattle.timeline_scheduler.specs.Slots.{is_misfit, overlaps, slot_at}
-use Rattle.timeline_scheduler.specs.declared.slots.Slot.{Slot}
 
 -- x has an access to a device of r
 abbrev pub is_shared : List LineageState → List Run → ℕ → ℕ → ℕ → Bool

@@ -1,33 +1,10 @@
 -- What the slots tell behind a front of the line, item by item.
-use Rattle.command_rules.proofs.Cited.{unread}
-use Rattle.command_rules.specs.ClosedSets.{chosen}
-use Rattle.command_rules.specs.Rosters.{Run, commands_of, is_on, reads_first, reads_unwritten, touches, writes_on}
-use Rattle.history_book.specs.Books.{doom_of}
-use Rattle.history_book.specs.Plans.{free, whole_end}
-use Rattle.history_book.specs.Readings.{Reading, is_doomed, is_live}
-use Rattle.history_book.specs.Settings.{Setting}
+use Rattle.timeline_scheduler.proofs.Prelude.{Access, Alone, Back, Bool, Command, EachTail, Facts, Failed, Grips, HasAccess, Item, LineageState, List, None, Option, Ran, Reading, Run, RunNo, Setting, Slot, Some, [], access_of, accesses_at, alone, ap, append-nil, append_assoc, ap₂, arith, changed, changed_on, chosen, cleared, commands_of, common_steps, cond, devices_among, devices_passed, doom_of, false, filter, fold, free, has_access, if◌then◌else◌, is_doomed, is_followed, is_live, is_on, is_passed, is_some, length, length-map, list_any, nat_lt, no_slot, not, or_right, passed_item, passed_set, reads_first, reads_some, reads_unwritten, refl, slice_set, slot_at, slot_behind, slot_passed, slot_waiting, subst, suc, sym, take, take_all, touches, true, unread, whole_end, whole_passed, workers_have_access, writes_on, zero, ℕ, ◌&&◌, ◌++◌, ◌<◌, ◌==◌, ◌||◌, ◌∙◌, ◌∷◌, ◌≡◌, ◌≤◌}
 use Rattle.history_book.specs.declared.entries.Kept.{Kept}
 use Rattle.home_types.specs.Commands.{is_always, reads, writes}
-use Rattle.home_types.specs.declared.commands.Command.{Command}
-use Rattle.home_types.specs.declared.items.Item.TheVariants.{Back, Failed, Ran}
-use Rattle.home_types.specs.declared.items.Item.{Item}
-use Rattle.home_types.specs.declared.numbers.RunNo.{RunNo}
-use Rattle.lineage_table.specs.Accesses.{access_of, has_access}
-use Rattle.lineage_table.specs.Lineages.{LineageState, accesses_at}
-use Rattle.lineage_table.specs.declared.accesses.Access.{Access}
-use Rattle.lock_leasing.proofs.Cited.{Alone, EachTail, Facts, HasAccess, alone, workers_have_access}
-use Rattle.lock_leasing.specs.Configurations.{Grips}
-use Rattle.std.proofs.Common.{ap, ap₂, append-nil, append_assoc, arith, cond, refl, subst, sym, ◌∙◌}
-use Rattle.std.proofs.lemmas.Bool.{or_right}
-use Rattle.std.proofs.lemmas.Grind.{common_steps}
-use Rattle.std.proofs.lemmas.List.{length-map, take_all}
-use Rattle.std.specs.List.{list_any}
-use Rattle.std.specs.Prelude.{Bool, List, None, Option, Some, [], false, filter, fold, if◌then◌else◌, is_some, length, nat_lt, not, slice_set, suc, take, true, zero, ℕ, ◌&&◌, ◌++◌, ◌<◌, ◌==◌, ◌||◌, ◌∷◌, ◌≡◌, ◌≤◌}
 use Rattle.timeline_scheduler.proofs.Frees.{AreOfLine, back_free, failed_free, found_in, none_of, run_free}
 use Rattle.timeline_scheduler.proofs.SlotSets.{changed_at, changed_length, chosen_at}
 use Rattle.timeline_scheduler.proofs.Wholes.{whole_is}
-use Rattle.timeline_scheduler.specs.Slots.{changed, changed_on, devices_among, devices_passed, cleared, is_followed, is_passed, no_slot, passed_item, passed_set, reads_some, slot_at, slot_behind, slot_passed, slot_waiting, whole_passed}
-use Rattle.timeline_scheduler.specs.declared.slots.Slot.{Slot}
 
 -- Slots of an item
 

@@ -1,16 +1,6 @@
 -- The planned times of a run whose commands follow one another, one command after the other.
-use Rattle.command_rules.specs.Rosters.{commands_of}
-use Rattle.history_book.specs.Plans.{free, greatest, plan_more, planned_times}
-use Rattle.history_book.specs.Readings.{Planned, Reading}
-use Rattle.history_book.specs.Settings.{Setting, scheduler_of}
-use Rattle.home_types.specs.declared.commands.Command.{Command}
-use Rattle.home_types.specs.declared.items.Item.{Item}
-use Rattle.home_types.specs.declared.modes.Scheduler.TheVariants.{Fcfs, JustInTime, Timeline}
+use Rattle.timeline_scheduler.proofs.Prelude.{Command, Fcfs, Item, JustInTime, List, Planned, Reading, Setting, Timeline, [], append-nil, append_assoc, arith, commands_of, common_steps, fold, free, greatest, max, min, plan_more, planned_in_turn, planned_times, refl, scheduler_of, sym, ℕ, ◌++◌, ◌+◌, ◌∙◌, ◌∷◌, ◌≡◌, ◌≢◌}
 use Rattle.home_types.specs.declared.modes.Scheduler.{Scheduler}
-use Rattle.timeline_scheduler.specs.PlannedUses.{planned_in_turn}
-use Rattle.std.proofs.Common.{append-nil, append_assoc, arith, refl, sym, ◌∙◌}
-use Rattle.std.proofs.lemmas.Grind.{common_steps}
-use Rattle.std.specs.Prelude.{List, [], fold, max, min, ℕ, ◌++◌, ◌+◌, ◌∷◌, ◌≡◌, ◌≢◌}
 
 -- planning one command after the other from a clock adds what they have in turn
 planned_from : (clock : ℕ) (planned : List Planned) (cs : List Command) → (fold (plan_more (λ d. 0)) (record { clock = clock; planned = planned }) cs).planned ≡ planned ++ planned_in_turn clock cs

@@ -1,17 +1,7 @@
 -- For how long a run whose commands follow one another uses each device, command after command.
-use Rattle.command_rules.specs.Rosters.{commands_of, is_on, touches}
-use Rattle.history_book.specs.Plans.{greatest, plan_more, planned_times}
-use Rattle.history_book.specs.Readings.{Planned, Reading}
-use Rattle.history_book.specs.Settings.{Setting}
-use Rattle.home_types.specs.declared.items.Item.{Item}
-use Rattle.home_types.specs.declared.commands.Command.{Command}
-use Rattle.timeline_scheduler.specs.PlannedUses.{planned_again, planned_use}
+use Rattle.timeline_scheduler.proofs.Prelude.{Bool, Command, Item, List, None, Option, Planned, Reading, Setting, Some, [], ap, commands_of, false, find, fold, greatest, if◌then◌else◌, is_on, list_any, list_any-append, max, min, option_map, plan_more, planned_again, planned_times, planned_use, refl, sym, touches, true, unwrap_or, ℕ, ◌++◌, ◌+◌, ◌==◌, ◌||◌, ◌∙◌, ◌∷◌, ◌≡◌}
 use Rattle.history_book.specs.declared.planned_uses.PlannedUse.{PlannedUse}
-use Rattle.std.proofs.Common.{ap, refl, sym, ◌∙◌}
 use Rattle.std.proofs.Math.Bool.{or-false}
-use Rattle.std.proofs.lemmas.List.Folds.{list_any-append}
-use Rattle.std.specs.List.{list_any}
-use Rattle.std.specs.Prelude.{Bool, List, None, Option, Some, [], false, find, fold, if◌then◌else◌, max, min, option_map, true, unwrap_or, ℕ, ◌++◌, ◌+◌, ◌==◌, ◌||◌, ◌∷◌, ◌≡◌}
 
 -- the use of the device behind these, where it is this one before them
 abbrev pub use_from : ℕ → Option PlannedUse → List Planned → Option PlannedUse

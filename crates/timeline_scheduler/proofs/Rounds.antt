@@ -1,37 +1,13 @@
 -- The rounds in which the set of a run grows: in each configuration to which the parts belong the last one is the timeline's.
-use Rattle.command_rules.proofs.Cited.{closure_closed, closure_holds, closure_least, closure_size, either_first, either_in, either_second, either_size, map_part, part_of_part, same_least}
-use Rattle.command_rules.specs.Apart.{meet}
-use Rattle.command_rules.specs.ClosedSets.{IsClosed, IsLeast, IsPart, chosen, closure, either_of}
-use Rattle.command_rules.specs.Items.{of_run}
-use Rattle.command_rules.specs.Rosters.{commands_of, touches}
-use Rattle.history_book.proofs.Cited.{doom_is}
-use Rattle.history_book.specs.Books.{doom_of}
+use Rattle.timeline_scheduler.proofs.Prelude.{Bool, Configuration, HoldsTimes, InEach, IsClosed, IsEarliestOf, IsLeast, IsLeastOf, IsPart, IsPlaceOf, IsPlanOf, IsSetOf, IsStandingOf, List, Mark, ScratchRoom, Slot, Timeline, WindowParts, accesses_at, ap, arith, bars_rise, chosen, closure, closure_closed, closure_holds, closure_least, closure_size, commands_of, count_by, doom_is, doom_of, either_first, either_in, either_of, either_second, either_size, facts_of, free, gap_is_earliest, gap_least, is_doomed, is_live, is_misfit, is_some, items_of, length, length-map, map, map_part, meet, not, of_run, or_right, part_of_part, passed_set, plan_behind, planned_times, read_of, reads_some, refl, same_least, scheduler_of, seeds, slot_at, subst, sym, touches, true, ℕ, ◌<◌, ◌∙◌, ◌≡◌, ◌≤◌}
 use Rattle.history_book.specs.Gaps.{bars, base_of, gap_set, is_needed}
-use Rattle.history_book.specs.Plans.{free, planned_times}
-use Rattle.history_book.specs.Readings.{is_doomed, is_live}
-use Rattle.history_book.specs.Settings.{scheduler_of}
-use Rattle.home_types.specs.declared.modes.Scheduler.TheVariants.{Timeline}
-use Rattle.lineage_table.specs.Lineages.{accesses_at}
-use Rattle.lock_leasing.proofs.Cited.{bars_rise, facts_of, gap_is_earliest, gap_least}
-use Rattle.lock_leasing.specs.Configurations.{Configuration, read_of}
 use Rattle.lock_leasing.specs.Places.{IsEarliestSet}
-use Rattle.lock_leasing.specs.Standings.{IsStandingOf, WindowParts}
-use Rattle.serial_line.specs.Marks.{Mark, items_of}
-use Rattle.std.proofs.Common.{ap, arith, refl, subst, sym, ◌∙◌}
-use Rattle.std.proofs.lemmas.Bool.{or_right}
-use Rattle.std.proofs.lemmas.List.{length-map}
-use Rattle.std.specs.Prelude.{Bool, List, count_by, is_some, length, map, not, true, ℕ, ◌<◌, ◌≡◌, ◌≤◌}
 use Rattle.timeline_scheduler.proofs.Counting.{count_chosen, count_within, outside_part}
 use Rattle.timeline_scheduler.proofs.Frees.{AreOfLine}
 use Rattle.timeline_scheduler.proofs.KnownItems.{device_within}
 use Rattle.timeline_scheduler.proofs.Misfits.{misfits_are, needed_based, times_held, times_told}
 use Rattle.timeline_scheduler.proofs.Needs.{base_is, seeds_length}
 use Rattle.timeline_scheduler.proofs.Passes.{set_free}
-use Rattle.timeline_scheduler.specs.Bases.{seeds}
-use Rattle.timeline_scheduler.specs.Placings.{InEach, IsEarliestOf, IsLeastOf, IsPlaceOf, IsPlanOf, IsSetOf}
-use Rattle.timeline_scheduler.specs.Scratches.{HoldsTimes, ScratchRoom}
-use Rattle.timeline_scheduler.specs.Slots.{is_misfit, passed_set, plan_behind, reads_some, slot_at}
-use Rattle.timeline_scheduler.specs.declared.slots.Slot.{Slot}
 
 module _ (parts : WindowParts) (r m : ℕ) where
   of_line : (s : Configuration) → IsStandingOf s parts → (d : ℕ) → d < length s.setting.first → AreOfLine s.setting (read_of s) s.grips d (accesses_at parts.table d)

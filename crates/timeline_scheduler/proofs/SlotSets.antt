@@ -1,11 +1,5 @@
 -- What is known of a device when slots are changed.
-use Rattle.std.proofs.Common.{ap, arith, cond, refl, subst, sym, ◌∙◌}
-use Rattle.std.proofs.lemmas.Grind.{common_steps}
-use Rattle.std.proofs.lemmas.List.{get_or-set_other, get_or-set_same, get_or_default, length-set}
-use Rattle.std.specs.List.{range_with_len}
-use Rattle.std.specs.Prelude.{Bool, List, [], drop, false, filter, length, slice_index_or, slice_set, suc, take, true, zero, ℕ, ◌++◌, ◌+◌, ◌<◌, ◌==◌, ◌∷◌, ◌≡◌, ◌≢◌, ◌≤◌}
-use Rattle.timeline_scheduler.specs.Slots.{changed, changed_on, cleared, no_slot, slot_at}
-use Rattle.timeline_scheduler.specs.declared.slots.Slot.{Slot}
+use Rattle.timeline_scheduler.proofs.Prelude.{Bool, List, Slot, [], ap, arith, changed, changed_on, cleared, common_steps, cond, drop, false, filter, get_or-set_other, get_or-set_same, get_or_default, length, length-set, no_slot, range_with_len, refl, slice_index_or, slice_set, slot_at, subst, suc, sym, take, true, zero, ℕ, ◌++◌, ◌+◌, ◌<◌, ◌==◌, ◌∙◌, ◌∷◌, ◌≡◌, ◌≢◌, ◌≤◌}
 
 -- of the device itself it is the new slot
 pub set_here : (slots : List Slot) (d : ℕ) (x : Slot) → d < length slots → slot_at (slice_set slots d x) d ≡ x

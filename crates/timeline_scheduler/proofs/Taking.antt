@@ -1,9 +1,5 @@
 -- A set that takes in, one by one, the items that pass a test.
-use Rattle.command_rules.specs.ClosedSets.{either_of}
-use Rattle.std.proofs.Common.{ap, ap₂, arith, cond, refl, sym, ◌∙◌}
-use Rattle.std.proofs.lemmas.List.{length-map, length-set, take_all, take_more}
-use Rattle.std.proofs.lemmas.List.Sums.{sum_by-cons}
-use Rattle.std.specs.Prelude.{Bool, List, [], count_by, drop, false, length, map, not, slice_index_or, slice_set, suc, take, true, zero, ℕ, ◌+◌, ◌++◌, ◌<◌, ◌||◌, ◌∷◌, ◌≡◌, ◌≤◌}
+use Rattle.timeline_scheduler.proofs.Prelude.{Bool, List, [], ap, ap₂, arith, cond, count_by, drop, either_of, false, length, length-map, length-set, map, not, refl, slice_index_or, slice_set, suc, sum_by-cons, sym, take, take_all, take_more, true, zero, ℕ, ◌++◌, ◌+◌, ◌<◌, ◌||◌, ◌∙◌, ◌∷◌, ◌≡◌, ◌≤◌}
 use Rattle.timeline_scheduler.proofs.Closing.{take_set}
 
 -- how many items are outside

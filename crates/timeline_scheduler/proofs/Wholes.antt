@@ -1,26 +1,7 @@
 -- The next accesses of a run tell the planned end of the whole run.
-use Rattle.command_rules.specs.Items.{is_ran}
-use Rattle.command_rules.specs.Rosters.{touches}
+use Rattle.timeline_scheduler.proofs.Prelude.{Access, Alone, Bool, EachTail, Grips, Item, LineageState, List, Option, Ran, Reading, RunNo, Setting, [], access_of, accesses_at, ap, arith, common_steps, cond, covers, end_of_access, eq-eqb, false, filter, fold, has_access, if◌then◌else◌, is_live, is_overwritten, is_passed, is_ran, length, list_any, max, not, passed_by, planned_end, range_with_len, reads_some, refl, suc, sym, touches, true, whole_end, whole_passed, zero, ℕ, ◌&&◌, ◌++◌, ◌+◌, ◌<◌, ◌||◌, ◌∙◌, ◌∷◌, ◌≡◌}
 use Rattle.history_book.specs.Lines.{behind}
-use Rattle.history_book.specs.Plans.{is_overwritten, planned_end, whole_end}
-use Rattle.history_book.specs.Readings.{Reading, is_live, passed_by}
-use Rattle.history_book.specs.Settings.{Setting}
-use Rattle.home_types.specs.declared.items.Item.TheVariants.{Ran}
-use Rattle.home_types.specs.declared.items.Item.{Item}
-use Rattle.home_types.specs.declared.numbers.RunNo.{RunNo}
-use Rattle.lineage_table.specs.Accesses.{access_of, has_access}
-use Rattle.lineage_table.specs.Lineages.{LineageState, accesses_at}
-use Rattle.lineage_table.specs.declared.accesses.Access.{Access}
-use Rattle.lock_leasing.proofs.Cited.{Alone, EachTail}
-use Rattle.lock_leasing.specs.Configurations.{Grips}
-use Rattle.lock_leasing.specs.Order.{covers}
-use Rattle.std.proofs.Common.{ap, arith, cond, refl, sym, ◌∙◌}
-use Rattle.std.proofs.lemmas.Bool.{eq-eqb}
-use Rattle.std.proofs.lemmas.Grind.{common_steps}
-use Rattle.std.specs.List.{list_any, range_with_len}
-use Rattle.std.specs.Prelude.{Bool, List, Option, [], false, filter, fold, if◌then◌else◌, length, max, not, suc, true, zero, ℕ, ◌&&◌, ◌++◌, ◌+◌, ◌<◌, ◌||◌, ◌∷◌, ◌≡◌}
 use Rattle.timeline_scheduler.proofs.Frees.{AreOfLine, Found, Other, Own, any_behind, found_in, max_none, none_of}
-use Rattle.timeline_scheduler.specs.Slots.{end_of_access, is_passed, reads_some, whole_passed}
 
 -- Folds
 

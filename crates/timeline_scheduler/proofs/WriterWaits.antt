@@ -1,16 +1,8 @@
 -- The devices on which a run waits for one that writes them.
-use Rattle.command_rules.proofs.Cited.{read_touched}
-use Rattle.command_rules.specs.Rosters.{Run, reads_first, touches, writes_on}
-use Rattle.home_types.specs.DeviceSets.{Devices, IsFirstFrom}
-use Rattle.std.proofs.Common.{ap, arith, refl, sym, ◌∙◌}
-use Rattle.std.proofs.lemmas.Grind.{common_steps}
+use Rattle.timeline_scheduler.proofs.Prelude.{Bool, Devices, IsFirstFrom, List, None, Run, RunsAreHomed, Slot, Some, ap, arith, changed, common_steps, devices_among, false, filter, if◌then◌else◌, length, max, nat_lt, range_with_len, read_touched, reads_first, refl, slot_waiting, sym, touches, true, writes_on, ℕ, ◌&&◌, ◌-◌, ◌<◌, ◌∙◌, ◌≡◌}
 use Rattle.std.specs.FinSet as set
-use Rattle.std.specs.List.{range_with_len}
-use Rattle.std.specs.Prelude.{Bool, List, None, Some, false, filter, if◌then◌else◌, length, max, nat_lt, true, ℕ, ◌&&◌, ◌-◌, ◌<◌, ◌≡◌}
 use Rattle.timeline_scheduler.proofs.DeviceWalks.{rest}
 use Rattle.timeline_scheduler.proofs.SlotSets.{changed_fewer}
-use Rattle.timeline_scheduler.specs.Slots.{RunsAreHomed, changed, devices_among, slot_waiting}
-use Rattle.timeline_scheduler.specs.declared.slots.Slot.{Slot}
 
 -- r reads the device first, and x writes it
 abbrev pub waits_for : List Run → ℕ → ℕ → ℕ → Bool

@@ -1,12 +1,6 @@
 -- Things that are drawn one after the other, and what holds of each.
-use Rattle.routine_reader.proofs.Cited.{EachAfter, each-more, each-none}
-use Rattle.seeded_draws.specs.Draws.{below}
-use Rattle.std.proofs.Common.{List, [], ap, arith, length, length-append, map, refl, subst, suc, zero, ℕ, ◌+◌, ◌++◌, ◌/◌, ◌<◌, ◌≡◌, ◌∙◌, ◌∷◌}
+use Rattle.trial_scripts.proofs.Prelude.{All, All-append, All-cons, All-nil, Drawing, EachAfter, List, [], ap, arith, below, draw_each, each-more, each-none, length, length-append, map, map-append, refl, subst, suc, zero, ℕ, ◌++◌, ◌+◌, ◌/◌, ◌<◌, ◌∙◌, ◌∷◌, ◌≡◌}
 use Rattle.std.proofs.Math.Nat.{mod-lt}
-use Rattle.std.proofs.lemmas.List.Elements.{All-append, All-cons, All-nil}
-use Rattle.std.proofs.lemmas.List.{map-append}
-use Rattle.std.specs.Prelude.{All}
-use Rattle.trial_scripts.specs.Drawings.{Drawing, draw_each}
 
 -- a draw is below its bound
 pub below_bound : (state k : ℕ) → 0 < k → below state k < k

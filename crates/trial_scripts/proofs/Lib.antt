@@ -1,4 +1,5 @@
 mod DrawnEach
+mod Prelude
 mod TrialDevicesSound
 mod TrialNames
 mod TrialRoutinesSound

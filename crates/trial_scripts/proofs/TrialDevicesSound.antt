@@ -1,17 +1,9 @@
 -- The devices of a trial are such as the format allows.
 use Rattle.home_types.specs.Kinds.{kind_at}
-use Rattle.home_types.specs.declared.kinds.Kind.TheVariants.{Range, States}
+use Rattle.trial_scripts.proofs.Prelude.{All, All-cons, All-nil, AreDifferent, IsSoundDevice, IsSoundDown, PlainDevice, Range, States, ap, arith, device_count, device_kinds, get_or-map-range_with_len, length, length-map-range_with_len, map, range_with_len, refl, subst, suc, sym, trial_device, trial_devices, zero, ℕ, ◌+◌, ◌<◌, ◌∙◌, ◌≡◌}
 use Rattle.routine_reader.specs.Devices.{device_names}
-use Rattle.routine_reader.specs.Scripts.{PlainDevice}
-use Rattle.routine_reader.specs.Sound.{AreDifferent, IsSoundDevice, IsSoundDown, device_kinds}
-use Rattle.std.proofs.Common.{ap, arith, length, map, refl, subst, suc, sym, zero, ℕ, ◌+◌, ◌<◌, ◌≡◌, ◌∙◌}
-use Rattle.std.proofs.lemmas.List.Elements.{All-cons, All-nil}
-use Rattle.std.proofs.lemmas.List.FromFn.{get_or-map-range_with_len, length-map-range_with_len}
 use Rattle.std.proofs.lemmas.Simd.{map-map}
-use Rattle.std.specs.List.{range_with_len}
-use Rattle.std.specs.Prelude.{All}
 use Rattle.trial_scripts.proofs.TrialNames.{are_different, name_is}
-use Rattle.trial_scripts.specs.TrialDevices.{device_count, trial_device, trial_devices}
 
 device_is_sound : (number : ℕ) → number < 100 → IsSoundDevice (trial_device number)
 device_is_sound number below =

@@ -1,14 +1,8 @@
 -- Names with numbers: they are names, and all different.
-use Rattle.routine_reader.proofs.Cited.{EachAfter, each-more, each-none}
+use Rattle.trial_scripts.proofs.Prelude.{AreDifferent, Bool, EachAfter, List, ap, arith, common_steps, each-more, each-none, false, map, map-range_with_len_more, range_with_len, refl, subst, suc, sym, true, two_digit_text, zero, ℕ, ◌%◌, ◌+◌, ◌/◌, ◌<◌, ◌||◌, ◌∙◌, ◌∷◌, ◌≡◌, ◌≤◌}
 use Rattle.routine_reader.specs.Names.{is_among, is_letter, is_name, is_name_byte}
-use Rattle.routine_reader.specs.Sound.{AreDifferent}
-use Rattle.std.proofs.Common.{Bool, List, ap, arith, false, map, refl, subst, suc, sym, true, zero, ℕ, ◌%◌, ◌+◌, ◌/◌, ◌<◌, ◌≡◌, ◌≤◌, ◌∙◌, ◌∷◌, ◌||◌}
-use Rattle.std.proofs.lemmas.Grind.{common_steps}
-use Rattle.std.proofs.lemmas.List.FromFn.{map-range_with_len_more}
 use Rattle.std.proofs.lemmas.Slice.Eq.{bytes_eq-Decides}
-use Rattle.std.specs.List.{range_with_len}
 use Rattle.std.specs.Str.{bytes_eq}
-use Rattle.trial_scripts.specs.Drawings.{two_digit_text}
 
 digit_is : (d : ℕ) → d < 10 → is_name_byte (48 + d) ≡ true
 digit_is d below = grind (arith, common_steps)

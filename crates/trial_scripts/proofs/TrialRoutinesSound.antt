@@ -1,22 +1,10 @@
 -- The routines of a trial are such as the format allows.
 use Rattle.home_types.specs.declared.commands.Job.TheVariants.{Check, Load, Set, Store}
-use Rattle.home_types.specs.declared.kinds.Kind.TheVariants.{Range}
+use Rattle.trial_scripts.proofs.Prelude.{All, AreDifferent, Bool, IsSoundCommand, IsSoundRoutine, List, PlainRoutine, Range, [], ap, arith, below, codes, common_steps, device_count, draw_command, draw_each, draw_job, draw_job_of, draw_routine, draw_routines, draw_valued, drawn, false, if◌then◌else◌, length, map, map-append, map-range_with_len_more, range_with_len, refl, routine_count, subst, suc, suits_device, sym, trial_devices, true, two_digit_text, zero, ℕ, ◌++◌, ◌+◌, ◌<◌, ◌==◌, ◌∙◌, ◌∷◌, ◌≡◌}
 use Rattle.routine_reader.specs.Routines.{routine_names}
-use Rattle.routine_reader.specs.Scripts.{PlainRoutine}
-use Rattle.routine_reader.specs.Sound.{AreDifferent, IsSoundCommand, IsSoundRoutine, suits_device}
-use Rattle.seeded_draws.specs.Draws.{below, drawn}
-use Rattle.std.proofs.Common.{Bool, List, [], ap, arith, false, length, map, refl, subst, suc, sym, true, zero, ℕ, ◌+◌, ◌<◌, ◌≡◌, ◌∙◌, ◌∷◌}
-use Rattle.std.proofs.lemmas.Grind.{common_steps}
-use Rattle.std.proofs.lemmas.List.FromFn.{map-range_with_len_more}
-use Rattle.std.proofs.lemmas.List.{map-append}
-use Rattle.std.specs.List.{range_with_len}
-use Rattle.std.specs.Prelude.{All, codes, if◌then◌else◌, ◌++◌, ◌==◌}
 use Rattle.trial_scripts.proofs.DrawnEach.{all_made, below_bound, length_made}
 use Rattle.trial_scripts.proofs.TrialDevicesSound.{devices_count, kind_of_device}
 use Rattle.trial_scripts.proofs.TrialNames.{are_different, name_is}
-use Rattle.trial_scripts.specs.Drawings.{draw_each, two_digit_text}
-use Rattle.trial_scripts.specs.TrialDevices.{device_count, trial_devices}
-use Rattle.trial_scripts.specs.TrialRoutines.{draw_command, draw_job, draw_job_of, draw_routine, draw_routines, draw_valued, routine_count}
 
 value_fits : (state : ℕ) → suits_device (Range 0 999) (Set (below (drawn state) 1000)) ≡ true
 value_fits state = let b = below_bound (drawn state) 1000 (omega arith) in grind (arith, common_steps)

@@ -1,13 +1,8 @@
 -- The script of a trial is such as the format allows.
-use Rattle.routine_reader.specs.Sound.{IsSound, IsSoundWindow}
-use Rattle.std.proofs.Common.{arith, subst, sym, ℕ, ◌≤◌}
-use Rattle.std.specs.Prelude.{All}
+use Rattle.trial_scripts.proofs.Prelude.{All, IsSound, IsSoundWindow, arith, draw_routines, draw_windows, subst, sym, trial_script, ℕ, ◌≤◌}
 use Rattle.trial_scripts.proofs.TrialDevicesSound.{devices_are_sound, devices_count, names_of_devices}
 use Rattle.trial_scripts.proofs.TrialRoutinesSound.{names_of_routines, routines_are_sound, routines_count}
 use Rattle.trial_scripts.proofs.TrialWindowsSound.{windows_are_sound, windows_count, windows_in_order}
-use Rattle.trial_scripts.specs.TrialRoutines.{draw_routines}
-use Rattle.trial_scripts.specs.TrialScripts.{trial_script}
-use Rattle.trial_scripts.specs.TrialWindows.{draw_windows}
 
 pub trial_is_sound : (n : ℕ) → n ≤ 288 → IsSound (trial_script n)
 unfolding trial_script

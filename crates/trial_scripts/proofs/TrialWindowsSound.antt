@@ -2,22 +2,13 @@
 use Rattle.day_clock.specs.Times.{IsCivilTime}
 use Rattle.day_clock.specs.declared.times.When.{When}
 use Rattle.home_types.specs.declared.numbers.RunNo.{RunNo}
-use Rattle.routine_reader.proofs.Cited.{EachAfter, length-before}
-use Rattle.routine_reader.specs.Scripts.{PlainWindow}
-use Rattle.routine_reader.specs.Sound.{AreInOrder, IsBefore, IsSoundRun, IsSoundWindow}
+use Rattle.trial_scripts.proofs.Prelude.{All, All-get_or, All-nil, AreInOrder, EachAfter, Equal, IfSome, IsBefore, IsSoundRun, IsSoundWindow, Less, List, None, PlainWindow, Some, ap, arith, draw_each, draw_run, draw_window, draw_windows, drawn, inl, inr, length, length-before, refl, routine_count, slice_get, subst, sym, trial_time, true, ℕ, ◌%◌, ◌*◌, ◌+◌, ◌/◌, ◌<◌, ◌∙◌, ◌≡◌, ◌≤◌}
 use Rattle.routine_reader.specs.declared.scripts.RunText.{RunText}
-use Rattle.seeded_draws.specs.Draws.{drawn}
-use Rattle.std.proofs.Common.{Equal, Less, List, None, Some, ap, arith, inl, inr, length, refl, subst, sym, true, ℕ, ◌%◌, ◌*◌, ◌+◌, ◌/◌, ◌<◌, ◌≡◌, ◌≤◌, ◌∙◌}
 use Rattle.std.proofs.lemmas.Bool.{cases_lt}
-use Rattle.std.proofs.lemmas.List.Elements.{All-get_or, All-nil}
 use Rattle.std.proofs.lemmas.Option.{get_or_from_slice_get, slice_get_within}
 use Rattle.std.specs.Cmp.{nat_cmp_is}
 use Rattle.std.specs.Ordering.{is_lt, nat_cmp, ordering_then}
-use Rattle.std.specs.Prelude.{All, IfSome, slice_get}
 use Rattle.trial_scripts.proofs.DrawnEach.{after_made, all_made, below_bound, length_made}
-use Rattle.trial_scripts.specs.Drawings.{draw_each}
-use Rattle.trial_scripts.specs.TrialRoutines.{routine_count}
-use Rattle.trial_scripts.specs.TrialWindows.{draw_run, draw_window, draw_windows, trial_time}
 
 -- ---- runs
 

@@ -1,24 +1,7 @@
 -- The device for which a strict model aborts a run is the one that the table, the line and the roster tell.
-use Rattle.command_rules.specs.Items.{is_ran}
-use Rattle.command_rules.specs.Rosters.{touches}
-use Rattle.home_types.specs.declared.items.Item.TheVariants.{Ran}
-use Rattle.home_types.specs.declared.modes.Visibility.TheVariants.{Eventual, Global, Partitioned, Weak}
-use Rattle.home_types.specs.declared.modes.Visibility.{Visibility}
-use Rattle.home_types.specs.declared.numbers.RunNo.{RunNo}
+use Rattle.visibility_models.proofs.Prelude.{Bool, Configuration, Eventual, Global, IsStandingOf, List, Partitioned, Ran, RunNo, Some, Visibility, Weak, WindowParts, [], ap, arith, common_steps, down_at_end, filter, find, first_down_for, has_touched, if◌then◌else◌, is_down_for, is_ran, is_strict_model, length, list_any, mark_has_touched, not, point, range_with_len, read_of, refl, stands, suc, sym, touches, true, under, zero, ℕ, ◌&&◌, ◌+◌, ◌<◌, ◌∙◌, ◌∷◌, ◌≡◌}
 use Rattle.lineage_table.specs.Lineages.{lineage_at}
-use Rattle.lock_leasing.specs.Configurations.{Configuration, point, read_of}
-use Rattle.lock_leasing.specs.Standings.{IsStandingOf, WindowParts}
-use Rattle.lock_leasing.specs.Waits.{down_at_end}
-use Rattle.lock_leasing.specs.Words.{has_touched}
 use Rattle.serial_line.proofs.Cited.{touched_in_line}
-use Rattle.serial_line.specs.Marks.{stands}
-use Rattle.serial_line.specs.Marks.{mark_has_touched}
-use Rattle.std.proofs.Common.{ap, arith, refl, sym, ◌∙◌}
-use Rattle.std.proofs.lemmas.Grind.{common_steps}
-use Rattle.std.specs.List.{list_any, range_with_len}
-use Rattle.std.specs.Prelude.{Bool, List, Some, [], filter, find, if◌then◌else◌, length, not, suc, true, zero, ℕ, ◌&&◌, ◌+◌, ◌<◌, ◌∷◌, ◌≡◌}
-use Rattle.visibility_models.specs.Models.{under}
-use Rattle.visibility_models.specs.Searches.{first_down_for, is_down_for, is_strict_model}
 
 -- tests that agree on the numbers find the same one
 find_agree : (p q : ℕ → Bool) (a n : ℕ) → ((d : ℕ) → d < a + n → p d ≡ q d) → find p (range_with_len a n) ≡ find q (range_with_len a n)

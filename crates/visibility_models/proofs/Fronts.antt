@@ -1,25 +1,6 @@
 -- No run is waited for that stands before the first one which has not ended.
-use Rattle.command_rules.specs.Items.{of_run}
-use Rattle.history_book.proofs.Cited.{end_is}
-use Rattle.history_book.specs.Books.{end_of}
-use Rattle.history_book.specs.Readings.{OfRun, Reading}
-use Rattle.history_book.specs.declared.entries.End.{End}
-use Rattle.history_book.specs.declared.entries.Kept.{Kept}
-use Rattle.home_types.specs.declared.items.Item.TheVariants.{Back, Failed, Ran}
-use Rattle.home_types.specs.declared.items.Item.{Item}
-use Rattle.home_types.specs.declared.modes.Visibility.{Visibility}
-use Rattle.home_types.specs.declared.numbers.RunNo.{RunNo}
-use Rattle.lock_leasing.specs.Configurations.{read_of}
-use Rattle.lock_leasing.specs.Standings.{WindowParts, has_ended}
-use Rattle.serial_line.specs.Marks.{Mark, front_of, is_open_run, items_of}
+use Rattle.visibility_models.proofs.Prelude.{Back, Bool, End, Failed, InOrder, Item, Kept, List, Mark, MayAskOfModel, None, OfRun, Option, Ran, Reading, RunNo, Some, Visibility, Weakly, WindowParts, [], ap, arith, common_steps, drop, end_is, end_of, eqb-true, false, first_unended_before, front_of, has_ended, if◌then◌else◌, is_none, is_open_run, is_some, is_strict_model, items_of, not, of_run, option_or, read_of, refl, suc, sym, true, unended_run, ℕ, ◌&&◌, ◌+◌, ◌==◌, ◌∙◌, ◌∷◌, ◌≡◌}
 use Rattle.serial_line.specs.Ties.{Each, EndsAs}
-use Rattle.std.proofs.Common.{ap, arith, refl, sym, ◌∙◌}
-use Rattle.std.proofs.lemmas.Bool.{eqb-true}
-use Rattle.std.proofs.lemmas.Grind.{common_steps}
-use Rattle.std.specs.Option.{option_or}
-use Rattle.std.specs.Prelude.{Bool, List, None, Option, Some, [], drop, false, if◌then◌else◌, is_none, is_some, not, suc, true, ℕ, ◌&&◌, ◌+◌, ◌==◌, ◌∷◌, ◌≡◌}
-use Rattle.visibility_models.specs.Models.{InOrder, MayAskOfModel, Weakly}
-use Rattle.visibility_models.specs.Searches.{first_unended_before, is_strict_model, unended_run}
 
 -- an item that is no run which has not ended is not r, which has not, and is not waited for
 passed : (test : ℕ → Bool) (n : Reading) (history : List Kept) (r : ℕ) (m : Mark) (items : List Item) → ((x : ℕ) → end_of history x ≡ (n.run x).ended) → has_ended n r ≡ false → EndsAs (has_ended n) m → is_open_run m ≡ false

@@ -1,5 +1,6 @@
 mod Found
 mod LineRuns
 mod Fronts
+mod Prelude
 mod StrictWaits
 mod DownDevices

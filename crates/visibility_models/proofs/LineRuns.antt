@@ -1,25 +1,6 @@
 -- What the parts of one window say of the runs of their line.
-use Rattle.command_rules.specs.Items.{is_ran}
-use Rattle.command_rules.specs.Rosters.{Run, is_run}
-use Rattle.history_book.proofs.Cited.{Shaped, Standing, end_is, is_abort, shapes, standing, stands_in}
-use Rattle.history_book.specs.Books.{end_of}
+use Rattle.visibility_models.proofs.Prelude.{AreRunsOf, Back, Configuration, End, Failed, InOrder, IsRunOf, IsStandingOf, IsTrue, IsUnderWay, Item, List, Mark, MayAskOfModel, None, OfRun, Option, Ran, Reading, Run, RunNo, Shaped, Some, Standing, Visibility, Weakly, WindowParts, [], ap, arith, both_ways, common_steps, end_is, end_of, false, is_abort, is_live, is_none, is_ran, is_run, is_some, is_strict_model, items_of, list_any, not, option_map, read_of, refl, shapes, slice_get, standing, stands, stands_in, subst, suc, sym, true, unwrap_or, zero, ℕ, ◌&&◌, ◌||◌, ◌∙◌, ◌∷◌, ◌≡◌}
 use Rattle.history_book.specs.Histories.{entries_of}
-use Rattle.history_book.specs.Readings.{OfRun, Reading, is_live}
-use Rattle.history_book.specs.declared.entries.End.{End}
-use Rattle.home_types.specs.declared.items.Item.TheVariants.{Back, Failed, Ran}
-use Rattle.home_types.specs.declared.items.Item.{Item}
-use Rattle.home_types.specs.declared.modes.Visibility.{Visibility}
-use Rattle.home_types.specs.declared.numbers.RunNo.{RunNo}
-use Rattle.lock_leasing.specs.Configurations.{Configuration, read_of}
-use Rattle.lock_leasing.specs.Standings.{IsStandingOf, WindowParts}
-use Rattle.serial_line.specs.Marks.{Mark, items_of, stands}
-use Rattle.std.proofs.Common.{ap, arith, refl, subst, sym, ◌∙◌}
-use Rattle.std.proofs.lemmas.Bool.{both_ways}
-use Rattle.std.proofs.lemmas.Grind.{common_steps}
-use Rattle.std.specs.List.{list_any}
-use Rattle.std.specs.Prelude.{IsTrue, List, None, Option, Some, [], false, is_none, is_some, not, option_map, slice_get, suc, true, unwrap_or, zero, ℕ, ◌&&◌, ◌||◌, ◌∷◌, ◌≡◌}
-use Rattle.visibility_models.specs.Models.{InOrder, IsUnderWay, MayAskOfModel, Weakly}
-use Rattle.visibility_models.specs.Searches.{AreRunsOf, IsRunOf, is_strict_model}
 
 -- a run of the line is placed
 placed_in_line : (n : Reading) (x : ℕ) → Standing n → list_any (is_ran x) n.line ≡ true → is_some (n.run x).placed ≡ true

@@ -1,28 +1,8 @@
 -- The run for which a model lets a run wait is the one that the line, the ends and the roster tell.
-use Rattle.command_rules.specs.Items.{is_ran}
-use Rattle.command_rules.specs.Rosters.{run_no}
-use Rattle.history_book.specs.Books.{end_of}
+use Rattle.visibility_models.proofs.Prelude.{Back, Bool, Configuration, Eventual, Failed, Global, IsStandingOf, Item, Kept, List, None, Partitioned, Ran, Reading, Visibility, Weak, WindowParts, [], ap, arith, common_steps, end_of, false, find, first_unended_before, if◌then◌else◌, is_live, is_none, is_ran, items_of, list_any, live_runs, model_bars, not, option_map, option_or, read_of, refl, run_no, strict_wait, sym, true, under, unended_run, ℕ, ◌==◌, ◌∙◌, ◌∷◌, ◌≡◌}
 use Rattle.history_book.specs.Lines.{before}
-use Rattle.history_book.specs.Readings.{Reading, is_live}
-use Rattle.history_book.specs.declared.entries.Kept.{Kept}
-use Rattle.home_types.specs.declared.items.Item.TheVariants.{Back, Failed, Ran}
-use Rattle.home_types.specs.declared.items.Item.{Item}
-use Rattle.home_types.specs.declared.modes.Visibility.TheVariants.{Eventual, Global, Partitioned, Weak}
-use Rattle.home_types.specs.declared.modes.Visibility.{Visibility}
-use Rattle.lock_leasing.specs.Configurations.{Configuration, read_of}
-use Rattle.lock_leasing.specs.Standings.{IsStandingOf, WindowParts}
-use Rattle.lock_leasing.specs.Waits.{model_bars, strict_wait}
-use Rattle.lock_leasing.specs.Words.{live_runs}
-use Rattle.serial_line.specs.Marks.{items_of}
-use Rattle.std.proofs.Common.{ap, arith, refl, sym, ◌∙◌}
-use Rattle.std.proofs.lemmas.Grind.{common_steps}
 use Rattle.std.proofs.lemmas.List.Sums.{take_while-cons}
-use Rattle.std.specs.List.{list_any}
-use Rattle.std.specs.Option.{option_or}
-use Rattle.std.specs.Prelude.{Bool, List, None, [], false, find, if◌then◌else◌, is_none, not, option_map, true, ℕ, ◌==◌, ◌∷◌, ◌≡◌}
 use Rattle.visibility_models.proofs.LineRuns.{live_in_line}
-use Rattle.visibility_models.specs.Models.{under}
-use Rattle.visibility_models.specs.Searches.{first_unended_before, unended_run}
 
 -- the first live run before r of which the test holds, where live is what the ends tell of the runs of the line
 found_before : (test : ℕ → Bool) (n : Reading) (history : List Kept) (r : ℕ) (items : List Item) → ((x : ℕ) → list_any (is_ran x) items ≡ true → is_live n x ≡ is_none (end_of history x))

@@ -1,19 +1,11 @@
 -- Of each run of a window, the device whose grip it holds, as devices go out and come home.
 use Rattle.command_rules.specs.Rosters.{Run, is_run}
 use Rattle.history_book.proofs.Cited.{put_other, put_same, run_place}
-use Rattle.history_book.specs.Readings.{Reading, put}
+use Rattle.window_devices.proofs.Prelude.{Bool, Grip, Grips, List, None, Option, Purpose, Reading, Some, ap, arith, common_steps, eq-eqb, eqb-true, false, has_grip, if◌then◌else◌, inl, inr, length, length-replicate, length-set, lt-ltb, nat_lt, option_map, point, put, refl, replicate, same_Some, slice_get, slice_set, subst, suc, sym, true, unwrap_or, zero, ℕ, ⊤, ◌-◌, ◌<◌, ◌==◌, ◌∙◌, ◌≡◌, ◌≢◌}
 use Rattle.history_book.specs.Settings.{Setting}
 use Rattle.home_types.specs.declared.numbers.DeviceNo.{DeviceNo}
-use Rattle.lock_leasing.specs.Configurations.{Grip, Grips, has_grip, point}
 use Rattle.lock_leasing.specs.Places.{GripsFit}
 use Rattle.lock_leasing.specs.Waits.{grip_wait}
-use Rattle.lock_leasing.specs.declared.purposes.Purpose.{Purpose}
-use Rattle.std.proofs.Common.{ap, arith, inl, inr, refl, subst, sym, ◌∙◌}
-use Rattle.std.proofs.lemmas.Bool.{eq-eqb, eqb-true, lt-ltb}
-use Rattle.std.proofs.lemmas.Grind.{common_steps}
-use Rattle.std.proofs.lemmas.List.{length-replicate, length-set}
-use Rattle.std.proofs.lemmas.Option.{same_Some}
-use Rattle.std.specs.Prelude.{Bool, List, None, Option, Some, false, if◌then◌else◌, length, nat_lt, option_map, replicate, slice_get, slice_set, suc, true, unwrap_or, zero, ℕ, ⊤, ◌-◌, ◌<◌, ◌==◌, ◌≡◌, ◌≢◌}
 use Rattle.window_devices.proofs.Finds.{find_first, find_none, find_same, none_does}
 use Rattle.window_devices.proofs.SetPlaces.{get_set}
 use Rattle.window_devices.specs.Checkouts.{HeldTokensAre, with_hand}

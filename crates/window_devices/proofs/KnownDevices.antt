@@ -1,15 +1,7 @@
 -- What is known of each device, and which grips are out, when one was set.
 use Rattle.device_gate.specs.declared.gates.Place.{Place}
-use Rattle.history_book.specs.Readings.{put}
-use Rattle.lock_leasing.specs.Configurations.{Grip}
-use Rattle.std.proofs.Common.{ap, arith, inl, inr, refl, sym, ◌∙◌}
-use Rattle.std.proofs.lemmas.Bool.{eq-eqb}
-use Rattle.std.proofs.lemmas.Grind.{common_steps}
-use Rattle.std.proofs.lemmas.List.{get_or-set_other, get_or-set_same}
-use Rattle.std.specs.Prelude.{List, Option, Some, false, if◌then◌else◌, length, slice_get, slice_set, true, ℕ, ◌<◌, ◌==◌, ◌≡◌, ◌≢◌}
+use Rattle.window_devices.proofs.Prelude.{DeviceProgress, Grip, List, Option, Some, ap, arith, common_steps, eq-eqb, false, get_or-set_other, get_or-set_same, grip_in, if◌then◌else◌, inl, inr, length, no_device, progress_at, put, refl, slice_get, slice_set, sym, true, ℕ, ◌<◌, ◌==◌, ◌∙◌, ◌≡◌, ◌≢◌}
 use Rattle.window_devices.proofs.SetPlaces.{get_set}
-use Rattle.window_devices.specs.KnownDevices.{grip_in, no_device, progress_at}
-use Rattle.window_devices.specs.declared.known.DeviceProgress.{DeviceProgress}
 
 -- a put function, place by place
 pub put_at : {A : Type 0} (f h : ℕ → A) (d : ℕ) (v : A) → h d ≡ v → ((e : ℕ) → e ≢ d → h e ≡ f e) → h ≡ put f d v

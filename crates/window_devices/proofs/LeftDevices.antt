@@ -1,12 +1,6 @@
 -- How devices are left where they are known to stand.
-use Rattle.home_types.specs.HomeStates.{stand_at}
-use Rattle.home_types.specs.declared.worlds.Stand.{Stand}
+use Rattle.window_devices.proofs.Prelude.{DeviceProgress, List, Stand, [], all_known_left, ap, arith, common_steps, false, known_left, length, length-append, nat_lt, refl, stand_at, suc, sym, true, zero, ℕ, ◌++◌, ◌+◌, ◌<◌, ◌∙◌, ◌∷◌, ◌≡◌}
 use Rattle.lineage_table.specs.Lineages.{LineageState}
-use Rattle.std.proofs.Common.{ap, arith, length-append, refl, sym, ◌∙◌}
-use Rattle.std.proofs.lemmas.Grind.{common_steps}
-use Rattle.std.specs.Prelude.{List, [], false, length, nat_lt, suc, true, zero, ℕ, ◌++◌, ◌+◌, ◌<◌, ◌∷◌, ◌≡◌}
-use Rattle.window_devices.specs.LeftDevices.{all_known_left, known_left}
-use Rattle.window_devices.specs.declared.known.DeviceProgress.{DeviceProgress}
 
 -- the stand of a device in a list with one more, before the last place and there
 stand_before : (xs : List Stand) (x : Stand) (d : ℕ) → d < length xs → stand_at (xs ++ x ∷ []) d ≡ stand_at xs d

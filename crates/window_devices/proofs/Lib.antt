@@ -1,3 +1,4 @@
+mod Prelude
 mod SetPlaces
 mod Finds
 mod KnownDevices

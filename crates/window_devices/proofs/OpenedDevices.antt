@@ -1,16 +1,8 @@
 -- The devices of a window that opens: each is home, and known as it is.
 use Rattle.device_gate.specs.Places.{all_home}
 use Rattle.device_states.specs.Devices.{Shown}
-use Rattle.home_types.specs.HomeStates.{stand_at}
-use Rattle.home_types.specs.declared.worlds.Stand.{Stand}
-use Rattle.lock_leasing.specs.declared.purposes.Purpose.{Purpose}
-use Rattle.std.proofs.Common.{ap, arith, inl, inr, refl, subst, sym, ◌∙◌}
-use Rattle.std.proofs.lemmas.Grind.{common_steps}
-use Rattle.std.proofs.lemmas.List.{length-append, replicate-append-replicate}
-use Rattle.std.proofs.lemmas.Option.{get_or_from_slice_get, slice_get_cases, slice_get_within}
-use Rattle.std.specs.Prelude.{List, None, Some, [], length, replicate, slice_get, slice_index_or, suc, zero, ℕ, ◌++◌, ◌+◌, ◌<◌, ◌∷◌, ◌≡◌, ◌≤◌, ◌⊎◌}
-use Rattle.window_devices.specs.KnownDevices.{AreKnown, grip_in, known_first, no_device, progress_at}
-use Rattle.window_devices.specs.declared.known.DeviceProgress.{DeviceProgress}
+use Rattle.window_devices.proofs.Prelude.{AreKnown, DeviceProgress, List, None, Purpose, Some, Stand, [], ap, arith, common_steps, get_or_from_slice_get, grip_in, inl, inr, known_first, length, no_device, progress_at, refl, replicate, replicate-append-replicate, slice_get, slice_get_cases, slice_get_within, slice_index_or, stand_at, subst, suc, sym, zero, ℕ, ◌++◌, ◌+◌, ◌<◌, ◌∙◌, ◌∷◌, ◌≡◌, ◌≤◌, ◌⊎◌}
+use Rattle.std.proofs.lemmas.List.{length-append}
 
 pub replicate_more : {A : Type 0} (n : ℕ) (x : A) → replicate n x ++ x ∷ [] ≡ replicate (n + 1) x
 replicate_more n x = replicate-append-replicate n 1 x

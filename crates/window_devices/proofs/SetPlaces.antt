@@ -1,6 +1,5 @@
 -- A list with another value at one place.
-use Rattle.std.proofs.Common.{ap, arith, inl, inr, refl, ◌⊎◌}
-use Rattle.std.specs.Prelude.{List, Some, [], length, slice_get, slice_set, suc, zero, ℕ, ◌<◌, ◌∷◌, ◌≡◌, ◌≢◌}
+use Rattle.window_devices.proofs.Prelude.{List, Some, [], ap, arith, inl, inr, length, refl, slice_get, slice_set, suc, zero, ℕ, ◌<◌, ◌∷◌, ◌≡◌, ◌≢◌, ◌⊎◌}
 
 -- the place that was written, or another
 pub get_set : {A : Type 0} (xs : List A) (i j : ℕ) (y : A) → i < length xs

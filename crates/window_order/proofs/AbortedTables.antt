@@ -1,32 +1,10 @@
 -- The lineages as a run ends aborted: its accesses are gone.
-use Rattle.command_rules.specs.Rosters.{run_no}
-use Rattle.history_book.proofs.Cited.{put_other}
-use Rattle.history_book.specs.Histories.{entry}
+use Rattle.window_order.proofs.Prelude.{Aborted, Back, Bool, Cause, Ended, Failed, Grips, Item, LineageIsKept, LineageState, List, None, OfRun, Option, Ran, Reading, Setting, Some, [], access_read, accesses_without, ap, arith, commits_write, committed_write, common_steps, entry, eqb-false, eqb-true, false, fold, if◌then◌else◌, is_committed, is_live, is_none, is_some, length, may_follow, not, option_or, point, put_other, refl, removed, run_no, stand_at, subst, sym, true, unplaced_on, unwrap_or, uses, ℕ, ◌&&◌, ◌+◌, ◌-◌, ◌==◌, ◌∙◌, ◌∷◌, ◌≡◌, ◌≢◌, ◌≤◌}
 use Rattle.history_book.specs.Lines.{without as line_without}
-use Rattle.history_book.specs.Readings.{OfRun, Reading, is_committed, is_live}
-use Rattle.history_book.specs.Settings.{Setting}
-use Rattle.history_book.specs.WellFormed.{may_follow}
-use Rattle.history_book.specs.declared.entries.Cause.{Cause}
-use Rattle.history_book.specs.declared.entries.End.TheVariants.{Aborted}
-use Rattle.history_book.specs.declared.entries.Entry.TheVariants.{Ended}
-use Rattle.home_types.specs.HomeStates.{stand_at}
-use Rattle.home_types.specs.declared.items.Item.TheVariants.{Back, Failed, Ran}
-use Rattle.home_types.specs.declared.items.Item.{Item}
-use Rattle.lineage_table.specs.Accesses.{accesses_without}
-use Rattle.lineage_table.specs.Lineages.{LineageState, removed}
-use Rattle.lock_leasing.specs.Configurations.{Grips, point}
-use Rattle.lock_leasing.specs.Tables.{uses}
-use Rattle.lock_leasing.specs.Words.{committed_write}
-use Rattle.std.proofs.Common.{ap, arith, refl, subst, sym, ◌∙◌}
-use Rattle.std.proofs.lemmas.Bool.{eqb-false, eqb-true}
-use Rattle.std.proofs.lemmas.Grind.{common_steps}
-use Rattle.std.specs.Option.{option_or}
-use Rattle.std.specs.Prelude.{Bool, List, None, Option, Some, [], false, fold, if◌then◌else◌, is_none, is_some, length, not, true, unwrap_or, ℕ, ◌&&◌, ◌+◌, ◌-◌, ◌==◌, ◌∷◌, ◌≡◌, ◌≢◌, ◌≤◌}
 use Rattle.window_order.proofs.AccessLists.{SameBut, without_along}
 use Rattle.window_order.proofs.ReadFacts.{IsRead}
 use Rattle.window_order.proofs.Runs.{live_uncommitted}
 use Rattle.window_order.proofs.TableFrames.{access_by, commits_by, may_by, put_says, same_unplaced, uses_by, write_by}
-use Rattle.window_order.specs.TableKept.{LineageIsKept, access_read, commits_write, unplaced_on}
 
 -- the last committed write of a line without a run that commits none
 write_without : (n m : Reading) (d r : ℕ) (is : List Item) → write_by d (n.run r) ≡ None → ((q : ℕ) → q ≢ r → write_by d (m.run q) ≡ write_by d (n.run q)) → (best : Option ℕ)

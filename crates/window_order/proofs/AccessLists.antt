@@ -1,25 +1,6 @@
 -- The accesses along a line, by three plain functions: which runs have one, which runs cover those before them, and what the access is.
-use Rattle.command_rules.specs.Items.{is_ran, of_run}
-use Rattle.command_rules.specs.Rosters.{run_no}
-use Rattle.device_order.specs.LineChanges.{Lacks}
-use Rattle.device_order.specs.LineWords.{RunsAreDistinct}
+use Rattle.window_order.proofs.Prelude.{Access, Back, Bool, Failed, Item, Lacks, List, None, Ran, RunNo, RunsAreDistinct, Scheduled, Some, [], accesses_along, accesses_from, accesses_without, ap, append-nil, arith, common_steps, eq-eqb, eqb-false, eqb-true, false, first_with_access, from_run, has_access, if◌then◌else◌, is_acquired, is_of, is_ran, is_released, list_any, list_any-append, map, ne_eqb, not, of_run, or_left, or_parts, or_right, put_access_before, put_at, put_before_run, refl, run_no, some_acquired, subst, sym, true, waits_again, with_again, with_again_from, with_change, ℕ, ◌&&◌, ◌++◌, ◌==◌, ◌||◌, ◌∙◌, ◌∷◌, ◌≡◌, ◌≢◌}
 use Rattle.history_book.specs.Lines.{without as line_without}
-use Rattle.home_types.specs.declared.items.Item.TheVariants.{Back, Failed, Ran}
-use Rattle.home_types.specs.declared.items.Item.{Item}
-use Rattle.lineage_table.proofs.Cited.{put_at}
-use Rattle.home_types.specs.declared.numbers.RunNo.{RunNo}
-use Rattle.lineage_table.specs.Accesses.{accesses_without, has_access, is_acquired, is_of, is_released, put_access_before, put_before_run, some_acquired, with_change}
-use Rattle.lineage_table.specs.declared.accesses.Status.TheVariants.{Scheduled}
-use Rattle.lineage_table.specs.declared.accesses.Access.{Access}
-use Rattle.std.proofs.Common.{ap, arith, refl, subst, sym, ◌∙◌}
-use Rattle.std.proofs.lemmas.Bool.{eq-eqb, eqb-false, eqb-true, ne_eqb, or_left, or_parts, or_right}
-use Rattle.std.proofs.lemmas.Grind.{common_steps}
-use Rattle.std.proofs.lemmas.List.Folds.{list_any-append}
-use Rattle.std.proofs.lemmas.List.{append-nil}
-use Rattle.std.specs.List.{list_any}
-use Rattle.std.specs.Prelude.{Bool, List, None, Some, [], false, if◌then◌else◌, map, not, true, ℕ, ◌&&◌, ◌++◌, ◌==◌, ◌||◌, ◌∷◌, ◌≡◌, ◌≢◌}
-use Rattle.window_order.specs.TableChanges.{accesses_from, first_with_access, from_run, waits_again, with_again, with_again_from}
-use Rattle.window_order.specs.TableKept.{accesses_along}
 
 -- the accesses of the front of a line, whose back covers it or not
 abbrev pub front_accesses : (ℕ → Bool) → (ℕ → Bool) → (ℕ → Access) → Bool → List Item → List Access

@@ -1,24 +1,8 @@
 -- How the accesses from that of a run on wait again, one after another from the last.
-use Rattle.home_types.specs.declared.items.Item.TheVariants.{Back, Failed, Ran}
-use Rattle.home_types.specs.declared.items.Item.{Item}
-use Rattle.home_types.specs.declared.numbers.RunNo.{RunNo}
-use Rattle.lineage_table.proofs.Cited.{Pairs, behind_at, pairs_back, pairs_from_all, put_at, status_at, without_at}
-use Rattle.lineage_table.specs.Accesses.{AreInTurn, AreOfTwoRuns, IsDisciplined, access_of, accesses_behind, accesses_without, has_access, is_acquired, is_of, is_released, is_scheduled, put_access_before, run_behind, some_acquired, status_of}
-use Rattle.lineage_table.specs.Lineages.{LineageState, removed, scheduled}
-use Rattle.lineage_table.specs.declared.accesses.Access.{Access}
-use Rattle.lineage_table.specs.declared.accesses.Status.TheVariants.{Acquired, Released, Scheduled}
-use Rattle.lineage_table.specs.declared.accesses.Status.{Status}
-use Rattle.std.proofs.Common.{ap, append_assoc, arith, length-append, refl, subst, sym, ◌∙◌}
-use Rattle.std.proofs.lemmas.Bool.{or_parts}
-use Rattle.std.proofs.lemmas.Grind.{common_steps}
-use Rattle.std.proofs.lemmas.List.Folds.{list_any-append}
-use Rattle.std.proofs.lemmas.List.{append-nil}
-use Rattle.std.specs.List.{AllByRecursion}
-use Rattle.std.specs.Option.{ForSome}
-use Rattle.std.specs.Prelude.{Bool, List, None, Option, Some, [], false, if◌then◌else◌, length, map, not, option_map, slice_get, true, unwrap_or, ℕ, ◌++◌, ◌+◌, ◌-◌, ◌<◌, ◌==◌, ◌||◌, ◌∷◌, ◌≡◌}
+use Rattle.window_order.proofs.Prelude.{Access, Acquired, AllByRecursion, AreInTurn, AreOfTwoRuns, Back, Bool, Failed, ForSome, IsDisciplined, IsNewOn, Item, LineageState, List, None, Option, Ran, Released, RunNo, Scheduled, Some, Status, [], access_of, accesses_behind, accesses_from, accesses_without, ap, append-nil, append_assoc, arith, behind_at, common_steps, false, first_with_access, from_run, has_access, if◌then◌else◌, is_acquired, is_of, is_released, is_scheduled, length, length-append, list_any-append, map, not, option_map, or_parts, pairs_back, pairs_from_all, put_access_before, put_at, refl, removed, rescheduled, run_behind, scheduled, slice_get, some_acquired, status_at, status_of, subst, sym, true, unwrap_or, waits_again, with_again, with_again_from, without_at, ℕ, ◌++◌, ◌+◌, ◌-◌, ◌<◌, ◌==◌, ◌||◌, ◌∙◌, ◌∷◌, ◌≡◌}
+use Rattle.lineage_table.proofs.Cited.{Pairs}
 use Rattle.window_order.proofs.AccessLists.{again_from_at, again_run, from_at}
 use Rattle.window_order.proofs.PassedAccesses.{alone}
-use Rattle.window_order.specs.TableChanges.{IsNewOn, accesses_from, first_with_access, from_run, rescheduled, waits_again, with_again, with_again_from}
 
 same : (a b : ℕ) → (a == b) ≡ true → a ≡ b
 same a b h = grind (arith, common_steps)

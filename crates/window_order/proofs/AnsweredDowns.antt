@@ -1,27 +1,6 @@
 -- A command is answered Down with no call: its run sees the device down already, or the device is home and counted down. The order of the window is kept.
-use Rattle.command_rules.specs.Rosters.{command_at, commands_of, run_no, touches}
-use Rattle.device_order.proofs.Cited.{down_answered, down_unseen, next_used}
-use Rattle.device_order.specs.LineEntries.{entries, stage_of, usage}
-use Rattle.device_order.specs.LineWords.{CutAt}
-use Rattle.device_order.specs.RunStates.{device_summary, rest, uses_device}
-use Rattle.device_order.specs.Usages.{is_up, stage_is_open}
-use Rattle.device_order.specs.WindowSteps.{GetsAnswer, MayAnswerDown}
-use Rattle.device_order.specs.Windows.{device_record}
-use Rattle.history_book.proofs.Cited.{put_other}
-use Rattle.history_book.specs.Histories.{entry}
-use Rattle.history_book.specs.Readings.{Reading, is_doomed, is_live, next_command, next_of, put, sees_down, view_of}
-use Rattle.history_book.specs.Settings.{Setting, is_device, is_weak}
-use Rattle.history_book.specs.declared.entries.Cause.{Cause}
-use Rattle.history_book.specs.declared.entries.Entry.TheVariants.{Did, Doomed}
-use Rattle.home_types.specs.Commands.{fails, holds}
+use Rattle.window_order.proofs.Prelude.{Bool, Cause, Command, CutAt, Did, Doomed, GetsAnswer, Grips, List, MayAnswerDown, None, Option, OrderIsKept, Reading, Setting, Some, ap, arith, behind_wait, both_ways, busy_wait, command_at, commands_of, common_steps, device_record, device_summary, down_answered, down_unseen, drop, entries, entry, eq-eqb, fails, false, grip_wait, holds, inl, inr, is_device, is_doomed, is_live, is_out, is_some, is_up, is_weak, next_command, next_of, next_used, not, option_map, or_left, point, probe_of, put, put_other, refl, rest, run_no, run_state, sees_down, stage_is_open, stage_of, subst, sym, touches, true, unwrap_or, usage, uses_device, view_of, window_of, ℕ, ◌&&◌, ◌+◌, ◌==◌, ◌||◌, ◌∙◌, ◌∷◌, ◌≡◌, ◌≢◌}
 use Rattle.home_types.specs.declared.commands.Answer.TheVariants.{Down}
-use Rattle.home_types.specs.declared.commands.Command.{Command}
-use Rattle.lock_leasing.specs.Configurations.{Grips, is_out, point}
-use Rattle.lock_leasing.specs.Waits.{behind_wait, busy_wait, grip_wait}
-use Rattle.std.proofs.Common.{ap, arith, inl, inr, refl, subst, sym, ◌∙◌}
-use Rattle.std.proofs.lemmas.Bool.{both_ways, eq-eqb, or_left}
-use Rattle.std.proofs.lemmas.Grind.{common_steps}
-use Rattle.std.specs.Prelude.{Bool, List, None, Option, Some, drop, false, is_some, not, option_map, true, unwrap_or, ℕ, ◌&&◌, ◌+◌, ◌==◌, ◌||◌, ◌∷◌, ◌≡◌, ◌≢◌}
 use Rattle.window_order.proofs.Firsts.{IsNewest, below_home, calm_behind, device_order_at, did_history, seen_view}
 use Rattle.window_order.proofs.Goes.{none_before, none_hold, open_behind}
 use Rattle.window_order.proofs.Grips.{HoldsNone, fits_other, held_none, holds_none, in_place}
@@ -29,8 +8,6 @@ use Rattle.window_order.proofs.ReadFacts.{IsRead, rest_next, view_from}
 use Rattle.window_order.proofs.Rollbacks.{doomed_history, gets_and_doomed, none_out}
 use Rattle.window_order.proofs.Runs.{cut_live, live_uncommitted}
 use Rattle.window_order.proofs.Steps.{gets_answer, next_is}
-use Rattle.window_order.specs.OrderKept.{OrderIsKept}
-use Rattle.window_order.specs.ReadWindows.{probe_of, run_state, window_of}
 
 -- what is known where the run's next command, which is this one, is so answered
 pub record IsToldDown (w : Setting) (n : Reading) (g : Grips) (held : ℕ → ℕ) (r : ℕ) (c : Command) : Type 0 where

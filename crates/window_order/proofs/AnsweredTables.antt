@@ -1,43 +1,11 @@
 -- An answer keeps the lineages, with the access of its run changed on the command's device alone.
-use Rattle.command_rules.specs.Items.{is_ran, of_run}
-use Rattle.command_rules.specs.Rosters.{command_at, commands_of, is_on, no_command, run_no, touches, touches_from}
-use Rattle.device_order.specs.LineWords.{CutAt}
-use Rattle.history_book.proofs.Cited.{pending_not_passed, put_all, put_other, put_same}
-use Rattle.history_book.specs.Histories.{answered, entry}
-use Rattle.history_book.specs.Plans.{planned_end, planned_start}
-use Rattle.history_book.specs.Readings.{OfRun, OnDevice, Reading, did, is_access, is_committed, is_doomed, is_fine, is_live, is_told, is_committing, next_of, pends, put, view_by}
-use Rattle.history_book.specs.Settings.{Setting}
-use Rattle.history_book.specs.declared.entries.Entry.TheVariants.{Did}
-use Rattle.home_types.specs.Commands.{driven, register_after}
-use Rattle.home_types.specs.Kinds.{kind_at}
-use Rattle.home_types.specs.declared.commands.Answer.TheVariants.{Down as IsDown, Fine, Found, Skipped}
-use Rattle.home_types.specs.declared.commands.Answer.{Answer}
-use Rattle.home_types.specs.declared.commands.Command.{Command}
-use Rattle.home_types.specs.declared.commands.View.TheVariants.{Down}
-use Rattle.home_types.specs.declared.commands.View.{View}
-use Rattle.home_types.specs.declared.items.Item.TheVariants.{Back, Failed, Ran}
-use Rattle.home_types.specs.declared.items.Item.{Item}
-use Rattle.home_types.specs.declared.kinds.Kind.{Kind}
-use Rattle.home_types.specs.declared.numbers.RunNo.{RunNo}
-use Rattle.lineage_table.specs.Accesses.{has_access, is_of, with_change}
-use Rattle.lineage_table.specs.Lineages.{LineageState}
-use Rattle.lineage_table.specs.declared.accesses.Access.{Access}
-use Rattle.lineage_table.specs.declared.accesses.Status.TheVariants.{Acquired, Released, Scheduled}
-use Rattle.lock_leasing.specs.Configurations.{Grips, grips_command, grips_undo, point}
-use Rattle.lock_leasing.specs.Tables.{may_be_passed, uses, view_when}
-use Rattle.std.proofs.Common.{ap, arith, length-append, refl, subst, sym, ◌∙◌}
-use Rattle.std.proofs.lemmas.Grind.{common_steps}
-use Rattle.std.proofs.lemmas.List.{drop_more}
-use Rattle.std.specs.List.{list_any}
-use Rattle.std.specs.Option.{option_or}
-use Rattle.std.specs.Prelude.{Bool, List, None, Option, Some, [], drop, false, if◌then◌else◌, is_none, is_some, length, not, option_map, suc, true, unwrap_or, zero, ℕ, ◌&&◌, ◌++◌, ◌+◌, ◌<◌, ◌==◌, ◌||◌, ◌∷◌, ◌≡◌, ◌≢◌}
+use Rattle.window_order.proofs.Prelude.{Access, Acquired, Answer, Back, Bool, Command, CutAt, Did, Down, Failed, Fine, Found, Grips, Item, Kind, LineageIsKept, LineageState, List, None, OfRun, OnDevice, Option, Ran, Reading, Released, RunNo, Scheduled, Setting, Skipped, Some, View, [], access_read, accesses_along, accesses_read, acquired_if, answer_noted, answered, ap, arith, command_at, commands_of, commits_write, common_steps, did, driven, drop, drop_more, entry, false, grips_command, grips_undo, has_access, if◌then◌else◌, is_access, is_committed, is_committing, is_done_there, is_doomed, is_fine, is_live, is_none, is_of, is_on, is_ran, is_some, is_told, kind_at, length, length-append, list_any, may_be_passed, next_of, no_command, not, of_run, option_map, option_or, pending_not_passed, pends, planned_end, planned_start, point, put, put_all, put_other, put_same, refl, register_after, released_if, run_no, subst, suc, sym, told_write, touches, touches_from, true, unwrap_or, uses, view_by, view_when, with_change, written_if, zero, ℕ, ◌&&◌, ◌++◌, ◌+◌, ◌<◌, ◌==◌, ◌||◌, ◌∙◌, ◌∷◌, ◌≡◌, ◌≢◌}
+use Rattle.home_types.specs.declared.commands.Answer.TheVariants.{Down as IsDown}
 use Rattle.window_order.proofs.AccessLists.{along_there, front_accesses, front_lacks}
 use Rattle.window_order.proofs.GripWords.{SameGrip}
 use Rattle.window_order.proofs.ReadFacts.{IsRead, runs_distinct}
 use Rattle.window_order.proofs.Runs.{live_uncommitted}
 use Rattle.window_order.proofs.TableFrames.{SameUses, access_by, access_gripped, commits_by, lineage_changed, lineage_same, may_by, may_gripped, put_says, uses_by, write_by}
-use Rattle.window_order.specs.TableChanges.{acquired_if, answer_noted, is_done_there, released_if, told_write, written_if}
-use Rattle.window_order.specs.TableKept.{LineageIsKept, access_read, accesses_along, accesses_read, commits_write}
 
 -- One access that changes
 

@@ -1,45 +1,12 @@
 -- What a read finds, while it is out: its run's own last write, else the last committed write before the run in the line; and no live run before it has the effective write.
-use Rattle.command_rules.specs.Items.{is_ran}
-use Rattle.command_rules.specs.Rosters.{command_at, run_no, touches}
-use Rattle.device_order.proofs.Cited.{effective_entries, reads as read_finds, used_at, walk_back}
+use Rattle.window_order.proofs.Prelude.{Back, Bool, Commands, DeviceInvariant, End, Failed, Free, GripFits, Grips, Item, List, None, Option, OrderEntry, OrderIsKept, Ran, Reading, Reads, Setting, Some, Usage, Used, WalkHolds, WalkState, Write, Writes, [], and_right, ap, ap₂, arith, before, behind, both_ways, command_at, committed_write, common_steps, cond, cons_option, count_append, count_by, count_insert, device_record, effective, effective_entries, effective_write, entries, eq-eqb, false, fold, grips_undo, has_effect, held_by, if◌then◌else◌, inl, inr, is_command, is_committed, is_committing, is_device, is_doomed, is_live, is_none, is_ran, is_some, is_undo, is_undone, is_write_settled, last_some, list_any, live_before, live_runs, no_grips, not, option_map, option_or, or_parts, or_right, point, reads, refl, rest, run_no, run_state, some_is, stage_is_committed, stage_of, stand_at, stands_in, subst, sym, take_while-cons, touches, true, unwrap_or, usage, used_at, uses_device, walk_back, walk_end, walk_start, window_of, write_of, ℕ, ◌&&◌, ◌++◌, ◌+◌, ◌==◌, ◌||◌, ◌∙◌, ◌∷◌, ◌≡◌, ◌≤◌, ◌⊎◌}
+use Rattle.device_order.proofs.Cited.{reads as read_finds}
 use Rattle.device_order.specs.Claims.{ReadFinds}
-use Rattle.device_order.specs.Invariant.{DeviceInvariant}
-use Rattle.device_order.specs.declared.walks.WalkState.{WalkState}
-use Rattle.history_book.proofs.Cited.{count_append, count_insert, some_is, stands_in}
-use Rattle.history_book.specs.declared.entries.End.{End}
-use Rattle.device_order.specs.LineEntries.{entries, stage_of, usage}
-use Rattle.device_order.specs.Records.{walk_start}
-use Rattle.device_order.specs.RunStates.{rest, uses_device}
-use Rattle.device_order.specs.Usages.{stage_is_committed}
-use Rattle.device_order.specs.Walks.{GripFits, WalkHolds, effective, is_write_settled, walk_end}
-use Rattle.device_order.specs.Windows.{device_record}
-use Rattle.device_order.specs.declared.records.HeldGrip.TheVariants.{Free, Reads, Writes}
-use Rattle.device_order.specs.declared.records.OrderEntry.TheVariants.{Used}
-use Rattle.device_order.specs.declared.records.OrderEntry.{OrderEntry}
-use Rattle.device_order.specs.declared.records.Usage.{Usage}
-use Rattle.history_book.specs.Lines.{before, behind}
-use Rattle.history_book.specs.Readings.{Reading, is_committed, is_committing, is_doomed, is_live}
-use Rattle.history_book.specs.Settings.{Setting, is_device}
-use Rattle.home_types.specs.Commands.{reads}
-use Rattle.home_types.specs.HomeStates.{stand_at}
-use Rattle.home_types.specs.declared.items.Item.TheVariants.{Back, Failed, Ran}
-use Rattle.home_types.specs.declared.items.Item.{Item}
-use Rattle.lock_leasing.specs.Configurations.{Grips, grips_undo, is_command, is_undo, no_grips, point}
-use Rattle.lock_leasing.specs.declared.purposes.Purpose.TheVariants.{Commands}
-use Rattle.lock_leasing.specs.Words.{Write, committed_write, effective_write, has_effect, is_undone, last_some, live_before, live_runs, write_of}
-use Rattle.std.proofs.Common.{ap, ap₂, arith, inl, inr, refl, subst, sym, ◌∙◌, ◌⊎◌}
-use Rattle.std.proofs.lemmas.Bool.{and_right, both_ways, eq-eqb, or_parts, or_right}
-use Rattle.std.proofs.lemmas.Grind.{common_steps, fold-append}
-use Rattle.std.proofs.lemmas.List.Sums.{take_while-cons}
-use Rattle.std.specs.List.{cons_option, list_any}
-use Rattle.std.specs.Option.{option_or}
-use Rattle.std.specs.Prelude.{Bool, List, None, Option, Some, [], cond, count_by, false, fold, if◌then◌else◌, is_none, is_some, not, option_map, true, unwrap_or, ℕ, ◌&&◌, ◌++◌, ◌+◌, ◌==◌, ◌||◌, ◌∷◌, ◌≡◌, ◌≤◌}
+use Rattle.std.proofs.lemmas.Grind.{fold-append}
 use Rattle.window_order.proofs.PromisedWords.{device_below}
 use Rattle.window_order.proofs.ReadFacts.{IsRead}
 use Rattle.window_order.proofs.SettledOrders.{value_along}
 use Rattle.window_order.proofs.StandingValues.{ActsOn, acts_on, live_stands, writer_on_line}
-use Rattle.window_order.specs.OrderKept.{OrderIsKept}
-use Rattle.window_order.specs.ReadWindows.{held_by, run_state, window_of}
 
 -- Lines
 

@@ -1,28 +1,8 @@
 -- What stands behind a place that is clear for a run: on the run's devices no answer, no command that is out and no event.
-use Rattle.command_rules.specs.Items.{is_ran, of_run}
-use Rattle.command_rules.specs.Rosters.{commands_of, touches}
-use Rattle.device_order.specs.LineWords.{at_device, is_calm_line}
-use Rattle.device_order.specs.RunStates.{device_summary, uses_device}
-use Rattle.device_order.specs.Usages.{has_used_device, holds_command}
-use Rattle.history_book.specs.Readings.{Reading, did, view_of}
-use Rattle.history_book.specs.Settings.{Setting, is_device}
-use Rattle.home_types.specs.declared.items.Item.TheVariants.{Back, Failed, Ran}
-use Rattle.home_types.specs.declared.items.Item.{Item}
-use Rattle.home_types.specs.declared.numbers.RunNo.{RunNo}
-use Rattle.lock_leasing.proofs.Cited.{clear_touch, none_beside, unbound_touch}
-use Rattle.lock_leasing.specs.Configurations.{Grips, grips_command, point}
-use Rattle.lock_leasing.specs.Places.{IsClear, binds}
-use Rattle.lock_leasing.specs.Words.{has_touched}
-use Rattle.std.proofs.Common.{ap, arith, refl, sym, ◌∙◌}
-use Rattle.std.proofs.lemmas.Bool.{eqb-true, or_parts}
-use Rattle.std.proofs.lemmas.Grind.{common_steps}
-use Rattle.std.specs.List.{list_any}
-use Rattle.std.specs.Prelude.{Bool, List, [], drop, false, is_some, not, true, ℕ, ◌&&◌, ◌==◌, ◌||◌, ◌∷◌, ◌≡◌}
+use Rattle.window_order.proofs.Prelude.{Back, Bool, Failed, Grips, IsClear, Item, List, Ran, Reading, RunNo, Setting, [], ap, arith, at_device, binds, clear_touch, commands_of, commits_write, common_steps, device_summary, did, drop, eqb-true, false, grips_command, has_touched, has_used_device, held_by, holds_command, is_calm_line, is_device, is_ran, is_some, list_any, none_beside, not, of_run, or_parts, point, refl, run_state, sym, touches, true, unbound_touch, uses_device, view_of, window_of, ℕ, ◌&&◌, ◌==◌, ◌||◌, ◌∙◌, ◌∷◌, ◌≡◌}
 use Rattle.window_order.proofs.Firsts.{seen_view}
 use Rattle.window_order.proofs.PromisedWords.{command_held}
 use Rattle.window_order.proofs.ReadFacts.{IsRead}
-use Rattle.window_order.specs.ReadWindows.{held_by, run_state, window_of}
-use Rattle.window_order.specs.TableKept.{commits_write}
 
 -- no committed run there wrote one
 pub clear_written : (w : Setting) (n : Reading) (g : Grips) (r at d : ℕ) → IsRead w n → IsClear (point w n g) r at → is_device w d ≡ true → touches w.runs r d ≡ true → list_any (of_run (commits_write n d)) (drop at n.line) ≡ false

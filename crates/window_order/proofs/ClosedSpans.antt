@@ -1,24 +1,6 @@
 -- A run that has done all it has to do on a device has its span in the device's log closed: what comes later is not in it.
-use Rattle.command_rules.specs.Rosters.{command_at, commands_of, is_on, no_command, touches_from}
-use Rattle.device_order.proofs.Cited.{two_places}
-use Rattle.history_book.proofs.Cited.{Logged, logged_step, put_keeps, put_other, put_same}
-use Rattle.history_book.specs.Histories.{entry, more_if, reading}
-use Rattle.history_book.specs.Readings.{First, Last, LogMark, OfRun, Reading, did, is_access, is_first_mark, is_last_mark, next_of, nothing_read, pends, put, span_of}
-use Rattle.history_book.specs.Settings.{Setting}
-use Rattle.history_book.specs.WellFormed.{IsWellFormed, along, may_follow}
-use Rattle.history_book.specs.declared.entries.Entry.TheVariants.{Arrived, Did, Doomed, Ended, Fell, Placed, Rose, Undid}
-use Rattle.history_book.specs.declared.entries.Entry.{Entry}
-use Rattle.home_types.specs.declared.commands.Answer.{Answer}
-use Rattle.home_types.specs.declared.commands.Command.{Command}
-use Rattle.home_types.specs.declared.numbers.RunNo.{RunNo}
-use Rattle.std.proofs.Common.{ap, arith, cond, length-append, refl, subst, sym, ◌∙◌}
-use Rattle.std.proofs.lemmas.Bool.{eq-eqb, eqb-false, eqb-true}
-use Rattle.std.proofs.lemmas.Grind.{common_steps}
-use Rattle.std.proofs.lemmas.List.Folds.{list_any-append}
-use Rattle.std.proofs.lemmas.List.Sums.{take_while-cons}
-use Rattle.std.proofs.lemmas.List.{append_assoc, drop_more}
-use Rattle.std.specs.List.{list_any}
-use Rattle.std.specs.Prelude.{Bool, IsTrue, List, [], false, fold, if◌then◌else◌, is_none, is_some, length, not, take_while, true, ℕ, ◌&&◌, ◌++◌, ◌+◌, ◌<◌, ◌==◌, ◌||◌, ◌∷◌, ◌≡◌, ◌≢◌}
+use Rattle.window_order.proofs.Prelude.{Answer, Arrived, Bool, Command, Did, Doomed, Ended, Entry, Fell, First, IsTrue, IsWellFormed, Last, List, LogMark, Logged, OfRun, Placed, Reading, Rose, RunNo, Setting, Undid, [], along, ap, arith, command_at, commands_of, common_steps, cond, did, drop_more, entry, eq-eqb, eqb-false, eqb-true, false, fold, if◌then◌else◌, is_access, is_first_mark, is_last_mark, is_none, is_on, is_some, length, length-append, list_any, list_any-append, logged_step, may_follow, more_if, next_of, no_command, not, nothing_read, pends, put, put_keeps, put_other, put_same, reading, refl, span_of, subst, sym, take_while, take_while-cons, touches_from, true, two_places, ℕ, ◌&&◌, ◌++◌, ◌+◌, ◌<◌, ◌==◌, ◌||◌, ◌∙◌, ◌∷◌, ◌≡◌, ◌≢◌}
+use Rattle.std.proofs.lemmas.List.{append_assoc}
 
 -- nothing that comes later is in the span
 abbrev pub IsClosed : ℕ → List LogMark → Type 0

@@ -1,42 +1,10 @@
 -- The lineages as a run commits.
-use Rattle.command_rules.specs.Items.{of_run}
-use Rattle.command_rules.specs.Rosters.{run_no, touches, touches_from}
-use Rattle.device_order.specs.LineChanges.{Lacks}
-use Rattle.device_order.specs.LineWords.{CutAt}
-use Rattle.history_book.proofs.Cited.{did_not_passed, did_touches, put_other, put_same}
-use Rattle.history_book.specs.Histories.{entry}
-use Rattle.history_book.specs.Readings.{OfRun, Reading, did, has_written, is_committed, is_doomed, is_live}
-use Rattle.history_book.specs.Settings.{Setting}
-use Rattle.history_book.specs.WellFormed.{may_follow}
-use Rattle.history_book.specs.declared.entries.End.TheVariants.{Committed}
-use Rattle.history_book.specs.declared.entries.Entry.TheVariants.{Ended}
-use Rattle.home_types.specs.HomeStates.{stand_at}
-use Rattle.home_types.specs.declared.items.Item.TheVariants.{Back, Failed, Ran}
-use Rattle.home_types.specs.declared.items.Item.{Item}
-use Rattle.lineage_table.proofs.Cited.{behind_at, without_at, without_none, written_at}
-use Rattle.lineage_table.specs.Accesses.{access_of, accesses_behind, accesses_without, has_access, is_of, written_by}
-use Rattle.lineage_table.specs.Lineages.{LineageState, committed_lineage, removed, settled}
-use Rattle.lineage_table.specs.declared.accesses.Access.{Access}
-use Rattle.lock_leasing.specs.Configurations.{Grip, Grips, grips_undo, is_undo, point}
-use Rattle.lock_leasing.specs.declared.purposes.Purpose.TheVariants.{Commands, Probes, Undoes}
-use Rattle.lock_leasing.specs.declared.purposes.Purpose.{Purpose}
-use Rattle.lock_leasing.specs.Order.{committed_value}
-use Rattle.lock_leasing.specs.Places.{GripsFit}
-use Rattle.lock_leasing.specs.Tables.{uses}
-use Rattle.lock_leasing.specs.Words.{committed_write, is_undone}
-use Rattle.std.proofs.Common.{ap, arith, refl, subst, sym, ◌∙◌}
-use Rattle.std.proofs.lemmas.Grind.{common_steps}
-use Rattle.std.proofs.lemmas.List.Folds.{list_any-append}
-use Rattle.std.proofs.lemmas.List.Sums.{fold-append}
-use Rattle.std.specs.List.{list_any}
-use Rattle.std.specs.Option.{option_or}
-use Rattle.std.specs.Prelude.{Bool, List, None, Option, Some, [], false, fold, if◌then◌else◌, is_none, is_some, length, not, option_and_then, option_map, true, unwrap_or, ℕ, ◌&&◌, ◌++◌, ◌+◌, ◌-◌, ◌==◌, ◌||◌, ◌∷◌, ◌≡◌, ◌≢◌, ◌≤◌}
+use Rattle.window_order.proofs.Prelude.{Access, Back, Bool, Commands, Committed, CutAt, Ended, Failed, Grip, Grips, GripsFit, Item, Lacks, LineageIsKept, LineageState, List, None, OfRun, Option, Probes, Purpose, Ran, Reading, Setting, Some, Undoes, [], access_of, access_read, accesses_along, accesses_behind, accesses_read, accesses_without, ap, arith, behind_at, commits_write, committed_lineage, committed_value, committed_write, common_steps, did, did_not_passed, did_touches, entry, false, fold, fold-append, grips_undo, has_access, has_written, if◌then◌else◌, is_committed, is_doomed, is_live, is_none, is_of, is_some, is_undo, is_undone, length, list_any, list_any-append, may_follow, not, of_run, option_and_then, option_map, option_or, point, put_other, put_same, refl, removed, run_no, settled, stand_at, subst, sym, touches, touches_from, true, unplaced_on, unwrap_or, uses, without_at, without_none, written_at, written_by, ℕ, ◌&&◌, ◌++◌, ◌+◌, ◌-◌, ◌==◌, ◌||◌, ◌∙◌, ◌∷◌, ◌≡◌, ◌≢◌, ◌≤◌}
 use Rattle.window_order.proofs.AccessLists.{SameBut, along_absent, along_but, along_covered, along_lacks, along_there, any_but, front_accesses, front_but, front_covered, front_lacks}
 use Rattle.window_order.proofs.ReadFacts.{IsRead}
 use Rattle.window_order.proofs.Representing.{held_as}
 use Rattle.window_order.proofs.Runs.{both, cut_live, live_uncommitted}
 use Rattle.window_order.proofs.TableFrames.{access_by, commits_by, lineage_same, may_by, put_says, same_unplaced, uses_by, write_by}
-use Rattle.window_order.specs.TableKept.{LineageIsKept, access_read, accesses_along, accesses_read, commits_write, unplaced_on}
 
 -- The last committed write along a list
 

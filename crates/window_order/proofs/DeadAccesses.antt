@@ -1,34 +1,6 @@
 -- The answer Down keeps the order of a window: where the device fails at a command that is out, and where it is given with no call.
-use Rattle.command_rules.specs.Items.{of_run}
-use Rattle.command_rules.specs.Rosters.{command_at, commands_of, run_no, touches, touches_from}
-use Rattle.device_order.proofs.Cited.{access_died}
-use Rattle.device_order.specs.LineWords.{CutAt}
-use Rattle.device_order.specs.Usages.{holds_command}
-use Rattle.device_order.specs.WindowSteps.{ChangesInPlace, with_event_in}
-use Rattle.device_order.specs.declared.records.HeldGrip.TheVariants.{Reads, Writes}
-use Rattle.history_book.proofs.Cited.{any_put_before, put_keeps, put_other, put_same}
-use Rattle.history_book.specs.Histories.{answered, entry, more_if, with_event}
-use Rattle.history_book.specs.Lines.{is_event_on, put_before}
-use Rattle.history_book.specs.Readings.{Event, First, Last, OfRun, OnDevice, Reading, did, is_access, is_doomed, is_first_mark, is_live, is_open, next_of, pends, put, sees_up, view_of}
-use Rattle.history_book.specs.Settings.{Setting, is_device, is_weak}
-use Rattle.history_book.specs.declared.entries.Cause.{Cause}
-use Rattle.history_book.specs.declared.entries.Entry.TheVariants.{Did, Doomed, Fell}
-use Rattle.home_types.specs.Commands.{fails, holds, reads}
+use Rattle.window_order.proofs.Prelude.{Answer, Bool, Cause, ChangesInPlace, Command, Commands, CutAt, Did, Doomed, Event, Failed, Fell, First, Grips, InHistoryOrder, Item, Last, List, None, OfRun, OnDevice, Option, OrderIsKept, Ran, Reading, Reads, Setting, Some, Writes, [], access_died, and_right, answered, any_put_before, ap, arith, both_ways, command_at, commands_of, common_steps, did, drop, entry, eqb-false, eqb-true, fails, false, held_by, holds, holds_command, if◌then◌else◌, inl, inr, is_access, is_device, is_doomed, is_event_on, is_first_mark, is_in_line, is_late, is_live, is_none, is_open, is_some, is_weak, kind_at, list_any, list_any-append, more_if, next_of, not, of_run, or_right, pends, point, probe_of, put, put_before, put_keeps, put_other, put_same, reads, refl, run_no, sees_up, subst, sym, touches, touches_from, true, unwrap_or, view_of, window_of, with_event, with_event_in, ℕ, ◌&&◌, ◌+◌, ◌==◌, ◌||◌, ◌∙◌, ◌∷◌, ◌≡◌, ◌≢◌, ◌⊎◌}
 use Rattle.home_types.specs.declared.commands.Answer.TheVariants.{Down}
-use Rattle.home_types.specs.declared.commands.Answer.{Answer}
-use Rattle.home_types.specs.Kinds.{kind_at}
-use Rattle.home_types.specs.declared.commands.Command.{Command}
-use Rattle.home_types.specs.declared.items.Item.TheVariants.{Failed, Ran}
-use Rattle.home_types.specs.declared.items.Item.{Item}
-use Rattle.lock_leasing.specs.Configurations.{Grips, point}
-use Rattle.lock_leasing.specs.declared.purposes.Purpose.TheVariants.{Commands}
-use Rattle.lock_leasing.specs.Order.{InHistoryOrder, is_in_line, is_late}
-use Rattle.std.proofs.Common.{ap, arith, inl, inr, refl, subst, sym, ◌∙◌}
-use Rattle.std.proofs.lemmas.Bool.{and_right, both_ways, eqb-false, eqb-true, or_right}
-use Rattle.std.proofs.lemmas.Grind.{common_steps}
-use Rattle.std.proofs.lemmas.List.Folds.{list_any-append}
-use Rattle.std.specs.List.{list_any}
-use Rattle.std.specs.Prelude.{Bool, List, None, Option, Some, [], drop, false, if◌then◌else◌, is_none, is_some, not, true, unwrap_or, ℕ, ◌&&◌, ◌+◌, ◌==◌, ◌||◌, ◌∷◌, ◌≡◌, ◌≢◌, ◌⊎◌}
 use Rattle.window_order.proofs.EventPlaces.{CutWith, awaits_there, cut_with, event_window}
 use Rattle.window_order.proofs.Firsts.{IsNewest, logged_did_history, same_view, seen_view}
 use Rattle.window_order.proofs.Grips.{held_other, held_own}
@@ -41,8 +13,6 @@ use Rattle.window_order.proofs.AnsweredTables.{pending_touches}
 use Rattle.window_order.proofs.Runs.{cut_live, live_run, live_uncommitted}
 use Rattle.window_order.proofs.Steps.{IsOut, gets_answer, home_fits, out_is, out_newest}
 use Rattle.window_order.proofs.TurnedOrders.{Turns, out_spans_none, turned_history}
-use Rattle.window_order.specs.OrderKept.{OrderIsKept}
-use Rattle.window_order.specs.ReadWindows.{held_by, probe_of, window_of}
 
 -- A later answer, and a doom
 

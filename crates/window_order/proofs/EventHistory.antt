@@ -1,18 +1,6 @@
 -- The order of first accesses and events in the line and in the history, where a device fails or comes back.
-use Rattle.command_rules.specs.Items.{is_ran, of_run}
-use Rattle.command_rules.specs.Rosters.{run_no}
-use Rattle.history_book.proofs.Cited.{any_insert}
-use Rattle.history_book.specs.Lines.{is_event_on}
-use Rattle.history_book.specs.Readings.{Event, Reading, did, is_doomed, is_event, sees_up, span_of, view_of}
-use Rattle.home_types.specs.declared.items.Item.TheVariants.{Back, Failed, Ran}
-use Rattle.home_types.specs.declared.items.Item.{Item}
-use Rattle.lock_leasing.specs.Order.{InHistoryOrder, firsts_of_line, firsts_of_log, is_in_line, is_late, marks_of_line, marks_of_log}
-use Rattle.std.proofs.Common.{ap, refl, sym, ◌∙◌}
-use Rattle.std.proofs.lemmas.Bool.{not-true}
+use Rattle.window_order.proofs.Prelude.{Back, Bool, Event, Failed, InHistoryOrder, IsTrue, Item, List, None, Option, Ran, Reading, Some, [], any_insert, ap, append-nil, cons_option, did, false, filter, filter_map, firsts_of_line, firsts_of_log, if◌then◌else◌, is_doomed, is_event, is_event_on, is_in_line, is_late, is_ran, is_some, list_any, marks_of_line, marks_of_log, not, not-true, of_run, refl, run_no, sees_up, span_of, sym, true, unwrap_or, view_of, ℕ, ◌&&◌, ◌++◌, ◌==◌, ◌||◌, ◌∙◌, ◌∷◌, ◌≡◌}
 use Rattle.std.proofs.lemmas.List.Elements.{filter_map-append}
-use Rattle.std.proofs.lemmas.List.{append-nil}
-use Rattle.std.specs.List.{cons_option, list_any}
-use Rattle.std.specs.Prelude.{Bool, IsTrue, List, None, Option, Some, [], false, filter, filter_map, if◌then◌else◌, is_some, not, true, unwrap_or, ℕ, ◌&&◌, ◌++◌, ◌==◌, ◌||◌, ◌∷◌, ◌≡◌}
 use Rattle.window_order.proofs.HistoryOrder.{all_three, if_kept, is_marked, kept_items, marks_kept, marks_unkept, none_items, same_items, same_marks, skipped, three}
 
 -- an event comes into the line, and the runs' first accesses to the device stay

@@ -1,35 +1,11 @@
 -- Where the event of a device stands in the line, and what that means for the runs around it.
-use Rattle.command_rules.specs.Items.{is_ran, of_run}
-use Rattle.command_rules.specs.Rosters.{commands_of, device_no, run_no, touches}
-use Rattle.device_order.proofs.Cited.{EventCut, calm_entries, used_at, uses_rest, waits_calm}
-use Rattle.device_order.specs.LineChanges.{Lacks, line_with_event, waits_at}
-use Rattle.device_order.specs.LineEntries.{entries, stage_of, usage}
-use Rattle.device_order.specs.LineWords.{CutAt, at_device, is_calm_line}
-use Rattle.device_order.specs.RunStates.{device_summary, rest, uses_device}
-use Rattle.device_order.specs.Usages.{is_up, spans_up, stage_is_open}
-use Rattle.device_order.specs.WindowSteps.{ChangesInPlace, with_event_in}
-use Rattle.device_order.specs.Windows.{device_record}
-use Rattle.history_book.proofs.Cited.{did_touches, stands_in}
-use Rattle.history_book.specs.Histories.{with_event}
-use Rattle.history_book.specs.Lines.{put_before}
-use Rattle.history_book.specs.Readings.{Reading, did, is_committed, is_doomed, is_live, is_open, pends, sees_up, view_of}
-use Rattle.history_book.specs.Settings.{Setting, is_device, is_weak}
-use Rattle.home_types.specs.declared.items.Item.TheVariants.{Back, Failed, Ran}
-use Rattle.home_types.specs.declared.items.Item.{Item}
-use Rattle.lock_leasing.specs.Configurations.{Grips, point}
-use Rattle.std.proofs.Common.{ap, arith, inl, inr, refl, subst, sym, ◌∙◌}
-use Rattle.std.proofs.lemmas.Bool.{both_ways, eq-eqb, or_left, or_right}
-use Rattle.std.proofs.lemmas.Grind.{common_steps}
-use Rattle.std.specs.List.{list_any}
-use Rattle.std.specs.Prelude.{Bool, List, None, Option, Some, [], false, if◌then◌else◌, is_some, not, option_map, true, unwrap_or, ℕ, ◌&&◌, ◌++◌, ◌==◌, ◌||◌, ◌∷◌, ◌≡◌, ◌≢◌, ◌⊎◌}
+use Rattle.window_order.proofs.Prelude.{Back, Bool, ChangesInPlace, CutAt, EventCut, Failed, Grips, Item, Lacks, List, None, Option, OrderIsKept, Ran, Reading, Setting, Some, [], ap, arith, at_device, both_ways, calm_entries, commands_of, common_steps, device_no, device_record, device_summary, did, did_touches, entries, eq-eqb, false, held_by, if◌then◌else◌, inl, inr, is_calm_line, is_committed, is_device, is_doomed, is_live, is_open, is_ran, is_some, is_up, is_weak, line_with_event, list_any, not, of_run, option_map, or_left, or_right, pends, point, put_before, refl, rest, run_no, run_state, sees_up, spans_up, stage_is_open, stage_of, stands_in, subst, sym, touches, true, unwrap_or, usage, used_at, uses_device, uses_rest, view_of, waits_at, waits_calm, window_of, with_event, with_event_in, ℕ, ◌&&◌, ◌++◌, ◌==◌, ◌||◌, ◌∙◌, ◌∷◌, ◌≡◌, ◌≢◌, ◌⊎◌}
 use Rattle.window_order.proofs.Firsts.{below_home, none_marked, seen_view}
 use Rattle.window_order.proofs.Goes.{StandIn, stands_committed}
 use Rattle.window_order.proofs.Grips.{in_place}
 use Rattle.window_order.proofs.HistoryOrder.{is_marked}
 use Rattle.window_order.proofs.ReadFacts.{IsRead, rest_drop, view_from}
 use Rattle.window_order.proofs.Runs.{live_uncommitted}
-use Rattle.window_order.specs.OrderKept.{OrderIsKept}
-use Rattle.window_order.specs.ReadWindows.{held_by, run_state, window_of}
 
 -- The place
 

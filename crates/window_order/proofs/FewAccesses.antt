@@ -1,23 +1,8 @@
 -- A device has at most one access for each run of the window.
-use Rattle.command_rules.specs.Items.{of_run}
-use Rattle.command_rules.specs.Rosters.{Run, touches}
-use Rattle.history_book.specs.Settings.{Setting}
-use Rattle.history_book.specs.Readings.{Reading}
-use Rattle.home_types.specs.declared.items.Item.TheVariants.{Back, Failed, Ran}
-use Rattle.home_types.specs.declared.items.Item.{Item}
-use Rattle.lineage_table.proofs.Cited.{Pairs, none_behind, pairs_from_all, without_none}
-use Rattle.lineage_table.specs.Accesses.{AreOfTwoRuns, IsDisciplined, accesses_without, is_of}
-use Rattle.lineage_table.specs.Lineages.{LineageState}
-use Rattle.lineage_table.specs.declared.accesses.Access.{Access}
-use Rattle.lock_leasing.specs.Configurations.{Grips, point}
-use Rattle.lock_leasing.specs.Tables.{uses}
-use Rattle.std.proofs.Common.{ap, arith, refl, subst, sym}
-use Rattle.std.proofs.lemmas.Grind.{common_steps}
+use Rattle.window_order.proofs.Prelude.{Access, AllByRecursion, AllPairs, AreOfTwoRuns, Back, Bool, Failed, Grips, IsDisciplined, Item, LineageIsKept, LineageState, List, None, Option, Ran, Reading, Run, Setting, Some, [], access_read, accesses_along, accesses_without, ap, arith, commits_write, common_steps, false, if◌then◌else◌, is_of, length, list_any, none_behind, not, of_run, pairs_from_all, point, refl, slice_get, subst, suc, sym, touches, true, uses, without_none, zero, ℕ, ◌&&◌, ◌+◌, ◌<◌, ◌==◌, ◌∷◌, ◌≡◌, ◌≤◌}
+use Rattle.lineage_table.proofs.Cited.{Pairs}
 use Rattle.std.proofs.lemmas.List.Kept.{AllPairs-filter}
 use Rattle.std.proofs.lemmas.Option.{slice_get_within}
-use Rattle.std.specs.List.{AllByRecursion, AllPairs, list_any}
-use Rattle.std.specs.Prelude.{Bool, List, None, Option, Some, [], false, if◌then◌else◌, length, not, slice_get, suc, true, zero, ℕ, ◌&&◌, ◌+◌, ◌<◌, ◌==◌, ◌∷◌, ◌≡◌, ◌≤◌}
-use Rattle.window_order.specs.TableKept.{LineageIsKept, access_read, accesses_along, commits_write}
 
 -- without the access of one run at most one is gone
 one_gone : (r : ℕ) (xs : List Access) → Pairs AreOfTwoRuns xs → length xs ≤ length (accesses_without r xs) + 1

@@ -1,36 +1,7 @@
 -- A run's first answer on a device is the newest there, and so it keeps the order of the history.
-use Rattle.command_rules.specs.Items.{of_run}
-use Rattle.command_rules.specs.Rosters.{command_at, commands_of, run_no, touches, touches_from}
-use Rattle.device_order.proofs.Cited.{alone_behind, calm_entries, has_entries, two_places, used_at, waits_calm}
-use Rattle.device_order.specs.LineEntries.{entries, usage}
-use Rattle.device_order.specs.LineWords.{CutAt, any_run, at_device, is_calm_line}
-use Rattle.device_order.specs.RunStates.{device_summary, uses_device}
-use Rattle.device_order.specs.Usages.{awaits_first, has_used_device, holds_command}
-use Rattle.device_order.specs.Windows.{device_record}
-use Rattle.device_order.specs.declared.records.OrderEntry.TheVariants.{Used}
-use Rattle.history_book.proofs.Cited.{did_touches, put_keeps, put_other, put_same}
-use Rattle.history_book.specs.Histories.{answered, entry, more_if}
-use Rattle.history_book.specs.Readings.{First, Last, OfRun, OnDevice, Reading, did, is_access, is_doomed, is_first_mark, put, view_by, view_of}
-use Rattle.history_book.specs.Settings.{Setting, is_device}
-use Rattle.history_book.specs.declared.entries.Entry.TheVariants.{Did}
-use Rattle.home_types.specs.Commands.{register_after}
-use Rattle.home_types.specs.Kinds.{kind_at}
-use Rattle.home_types.specs.declared.commands.Answer.{Answer}
-use Rattle.home_types.specs.declared.commands.Command.{Command}
-use Rattle.home_types.specs.declared.items.Item.TheVariants.{Back, Failed, Ran}
-use Rattle.home_types.specs.declared.items.Item.{Item}
-use Rattle.lock_leasing.specs.Configurations.{Grips, point}
-use Rattle.lock_leasing.specs.Order.{InHistoryOrder, is_late}
-use Rattle.std.proofs.Common.{ap, arith, refl, sym, ◌∙◌}
-use Rattle.std.proofs.lemmas.Bool.{ltb-true, or_parts}
-use Rattle.std.proofs.lemmas.Grind.{common_steps}
-use Rattle.std.specs.List.{list_any}
-use Rattle.std.specs.Option.{option_or}
-use Rattle.std.specs.Prelude.{Bool, List, None, Option, Some, [], false, is_none, is_some, length, not, option_map, true, ℕ, ◌&&◌, ◌++◌, ◌+◌, ◌<◌, ◌==◌, ◌||◌, ◌∷◌, ◌≡◌, ◌≢◌}
+use Rattle.window_order.proofs.Prelude.{Answer, Back, Bool, Command, CutAt, Did, Failed, First, Grips, InHistoryOrder, Item, Last, List, None, OfRun, OnDevice, Option, OrderIsKept, Ran, Reading, Setting, Some, Used, [], alone_behind, answered, any_run, ap, arith, at_device, awaits_first, calm_entries, command_at, commands_of, common_steps, device_record, device_summary, did, did_touches, entries, entry, false, has_entries, has_used_device, held_by, holds_command, is_access, is_calm_line, is_device, is_doomed, is_first_mark, is_late, is_none, is_some, kind_at, length, list_any, ltb-true, more_if, not, of_run, option_map, option_or, or_parts, point, put, put_keeps, put_other, put_same, refl, register_after, run_no, run_state, sym, touches, touches_from, true, two_places, usage, used_at, uses_device, view_by, view_of, waits_calm, window_of, ℕ, ◌&&◌, ◌++◌, ◌+◌, ◌<◌, ◌==◌, ◌||◌, ◌∙◌, ◌∷◌, ◌≡◌, ◌≢◌}
 use Rattle.window_order.proofs.HistoryOrder.{first_history, is_marked, last_history, same_history}
 use Rattle.window_order.proofs.ReadFacts.{IsRead, view_from}
-use Rattle.window_order.specs.OrderKept.{OrderIsKept}
-use Rattle.window_order.specs.ReadWindows.{held_by, run_state, window_of}
 
 pub below_home : (w : Setting) (d : ℕ) → is_device w d ≡ true → d < length w.first
 below_home w d h = ltb-true d (length w.first) h

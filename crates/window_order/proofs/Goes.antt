@@ -1,43 +1,8 @@
 -- A run that waits for nothing may have the grip of its next command's device.
-use Rattle.command_rules.specs.Items.{is_ran, of_run}
-use Rattle.command_rules.specs.Rosters.{commands_of, run_no, touches}
-use Rattle.device_order.proofs.Cited.{Cut, cut, has_entries, untouched_behind, used_at}
-use Rattle.device_order.specs.LineChanges.{Lacks}
-use Rattle.device_order.specs.LineEntries.{entries, stage_of, usage}
-use Rattle.device_order.specs.LineWords.{CutAt, any_run, at_device, last_in_effect}
-use Rattle.device_order.specs.Records.{walk_start}
-use Rattle.device_order.specs.RunStates.{rest, uses_device}
-use Rattle.device_order.specs.Usages.{has_pending, has_used_device, holds_grip, is_free, is_seen_down, stage_is_open}
-use Rattle.device_order.specs.declared.walks.WalkState.{WalkState}
-use Rattle.device_order.specs.Walks.{WalkHolds, after_usage, is_command_out, walk_end}
-use Rattle.device_order.specs.Windows.{device_record}
-use Rattle.device_order.specs.declared.records.OrderEntry.{OrderEntry}
-use Rattle.device_order.specs.declared.records.Usage.{Usage}
-use Rattle.history_book.proofs.Cited.{is_abort, some_is, stands_in}
-use Rattle.history_book.specs.Lines.{before}
-use Rattle.history_book.specs.Readings.{PlacedAt, Reading, did, is_committed, is_committing, is_doomed, is_live, pends}
-use Rattle.history_book.specs.Settings.{Setting, is_device}
-use Rattle.history_book.specs.declared.entries.End.TheVariants.{Aborted, Committed}
-use Rattle.history_book.specs.declared.entries.End.{End}
-use Rattle.home_types.specs.declared.items.Item.TheVariants.{Back, Failed, Ran}
-use Rattle.home_types.specs.declared.items.Item.{Item}
-use Rattle.home_types.specs.declared.numbers.RunNo.{RunNo}
-use Rattle.lock_leasing.specs.Configurations.{Grip, Grips, point}
-use Rattle.lock_leasing.specs.Waits.{behind_wait}
-use Rattle.lock_leasing.specs.Words.{Write, effective_write, has_effect, holds_device, is_undone, last_some, live_before, live_runs, write_of}
-use Rattle.std.proofs.Common.{ap, arith, cond, inl, inr, refl, subst, sym, ◌∙◌}
-use Rattle.std.proofs.lemmas.Bool.{and_right, both_ways, eq-eqb, eqb-true, ne_eqb, or_left, or_parts, or_right}
-use Rattle.std.proofs.lemmas.Grind.{common_steps}
-use Rattle.std.proofs.lemmas.List.Folds.{list_any-append}
-use Rattle.std.proofs.lemmas.List.Sums.{fold-append, take_while-cons}
-use Rattle.std.specs.List.{cons_option, list_any}
-use Rattle.std.specs.Option.{option_map_or, option_or}
-use Rattle.std.specs.Prelude.{Bool, List, None, Option, Some, [], false, find, fold, if◌then◌else◌, is_none, is_some, not, option_map, take_while, true, unwrap_or, ℕ, ◌&&◌, ◌++◌, ◌==◌, ◌||◌, ◌∷◌, ◌≡◌, ◌⊎◌}
+use Rattle.window_order.proofs.Prelude.{Aborted, Back, Bool, Committed, Cut, CutAt, End, Failed, Grip, Grips, Item, Lacks, List, None, Option, OrderEntry, OrderIsKept, PlacedAt, Ran, Reading, RunNo, Setting, Some, Usage, WalkHolds, WalkState, Write, [], after_usage, and_right, any_run, ap, arith, at_device, before, behind_wait, both_ways, commands_of, common_steps, cond, cons_option, cut, device_record, did, effective_write, entries, eq-eqb, eqb-true, false, find, fold, fold-append, has_effect, has_entries, has_pending, has_used_device, held_by, holds_device, holds_grip, if◌then◌else◌, inl, inr, is_abort, is_command_out, is_committed, is_committing, is_device, is_doomed, is_free, is_live, is_none, is_ran, is_seen_down, is_some, is_undone, last_in_effect, last_some, list_any, list_any-append, live_before, live_runs, ne_eqb, not, of_run, option_map, option_map_or, option_or, or_left, or_parts, or_right, pends, point, refl, rest, run_no, run_state, some_is, stage_is_open, stage_of, stands_in, subst, sym, take_while, take_while-cons, touches, true, untouched_behind, unwrap_or, usage, used_at, uses_device, walk_end, walk_start, window_of, write_of, ℕ, ◌&&◌, ◌++◌, ◌==◌, ◌||◌, ◌∙◌, ◌∷◌, ◌≡◌, ◌⊎◌}
 use Rattle.window_order.proofs.Firsts.{below_home, none_seen}
 use Rattle.window_order.proofs.ReadFacts.{IsRead, rest_drop, view_from}
 use Rattle.window_order.proofs.StandingValues.{writer_on_line}
-use Rattle.window_order.specs.OrderKept.{OrderIsKept}
-use Rattle.window_order.specs.ReadWindows.{held_by, run_state, window_of}
 
 -- The part before a run
 

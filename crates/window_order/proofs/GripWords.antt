@@ -1,13 +1,5 @@
 -- What the grip of one device says of the runs.
-use Rattle.history_book.proofs.Cited.{put_keeps, put_other, put_same}
-use Rattle.history_book.specs.Readings.{put}
-use Rattle.lock_leasing.specs.Configurations.{Grip, Grips, grips_command, grips_undo, is_command, is_undo}
-use Rattle.lock_leasing.specs.declared.purposes.Purpose.TheVariants.{Probes}
-use Rattle.lock_leasing.specs.declared.purposes.Purpose.{Purpose}
-use Rattle.std.proofs.Common.{ap, arith, refl, sym, ◌∙◌}
-use Rattle.std.proofs.lemmas.Bool.{and_right}
-use Rattle.std.proofs.lemmas.Grind.{common_steps}
-use Rattle.std.specs.Prelude.{Bool, None, Option, Some, false, option_map, unwrap_or, ℕ, ◌&&◌, ◌==◌, ◌≡◌, ◌≢◌}
+use Rattle.window_order.proofs.Prelude.{Bool, Grip, Grips, None, Option, Probes, Purpose, Some, and_right, ap, arith, common_steps, false, grips_command, grips_undo, is_command, is_undo, option_map, put, put_keeps, put_other, put_same, refl, sym, unwrap_or, ℕ, ◌&&◌, ◌==◌, ◌∙◌, ◌≡◌, ◌≢◌}
 
 -- the run with this grip has the device for a command, ..
 abbrev pub for_command : ℕ → Option Grip → Bool

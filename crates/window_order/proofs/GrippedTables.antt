@@ -1,32 +1,9 @@
 -- A grip that goes out, an undo that comes home or is left out, and a doom keep the lineages.
-use Rattle.command_rules.specs.Rosters.{device_no, run_no, touches, touches_from}
-use Rattle.device_order.proofs.Cited.{two_places}
-use Rattle.history_book.proofs.Cited.{put_all, put_keeps, put_other, put_same}
-use Rattle.history_book.specs.Histories.{entry}
-use Rattle.history_book.specs.Plans.{planned_end, planned_start}
-use Rattle.history_book.specs.Readings.{OfRun, Reading, did, is_committing, is_doomed, pends, put, view_of}
-use Rattle.history_book.specs.Settings.{Setting}
-use Rattle.history_book.specs.declared.entries.Cause.{Cause}
-use Rattle.history_book.specs.declared.entries.Entry.TheVariants.{Doomed, Undid}
-use Rattle.home_types.specs.declared.commands.View.TheVariants.{Down}
-use Rattle.lineage_table.specs.Accesses.{is_acquired, is_of, status_of, with_change}
-use Rattle.lineage_table.specs.Lineages.{LineageState, undone}
-use Rattle.lineage_table.specs.declared.accesses.Access.{Access}
-use Rattle.lineage_table.specs.declared.accesses.Status.TheVariants.{Acquired, Released, Scheduled}
-use Rattle.lineage_table.specs.declared.accesses.Status.{Status}
-use Rattle.lock_leasing.specs.Configurations.{Grips, grips_command, grips_undo, point}
-use Rattle.lock_leasing.specs.declared.purposes.Purpose.TheVariants.{Commands, Undoes}
-use Rattle.lock_leasing.specs.Tables.{may_be_passed, view_when}
-use Rattle.std.proofs.Common.{ap, arith, refl, subst, sym, ◌∙◌}
-use Rattle.std.proofs.lemmas.Bool.{eq-eqb, ne_eqb, or_right}
-use Rattle.std.proofs.lemmas.Grind.{common_steps}
-use Rattle.std.specs.Prelude.{Bool, List, None, Some, [], false, find, if◌then◌else◌, is_none, is_some, length, not, option_map, true, unwrap_or, ℕ, ◌&&◌, ◌||◌, ◌∷◌, ◌≡◌, ◌≢◌}
+use Rattle.window_order.proofs.Prelude.{Access, Acquired, Bool, Cause, Commands, Doomed, Down, Grips, LineageIsKept, LineageState, List, None, OfRun, Reading, Released, Scheduled, Setting, Some, Status, Undid, Undoes, [], ap, arith, common_steps, device_no, did, doomed_change, doomed_lineage, entry, eq-eqb, false, find, grips_command, grips_undo, has_acquired, if◌then◌else◌, is_acquired, is_committing, is_doomed, is_none, is_of, is_some, length, may_be_passed, ne_eqb, not, option_map, or_right, pends, planned_end, planned_start, point, put, put_all, put_keeps, put_other, put_same, refl, released_if, run_no, status_of, subst, sym, touches, touches_from, true, two_places, undone, undone_change, unwrap_or, view_of, view_when, with_change, ℕ, ◌&&◌, ◌||◌, ◌∙◌, ◌∷◌, ◌≡◌, ◌≢◌}
 use Rattle.window_order.proofs.AnsweredTables.{lineage_with}
 use Rattle.window_order.proofs.GripWords.{SameGrip, grip_elsewhere, grip_home, grip_out, home_command, home_undo, no_command_out, own_undo}
 use Rattle.window_order.proofs.ReadFacts.{IsRead, runs_distinct}
 use Rattle.window_order.proofs.TableFrames.{SameUses, access_by, access_gripped, commits_by, lineage_changed, lineage_same, may_by, may_gripped, put_says, uses_by, uses_same, write_by}
-use Rattle.window_order.specs.TableChanges.{doomed_change, doomed_lineage, has_acquired, released_if, undone_change}
-use Rattle.window_order.specs.TableKept.{LineageIsKept}
 
 -- A command goes out
 

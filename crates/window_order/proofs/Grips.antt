@@ -1,23 +1,5 @@
 -- Which grips may be out, and what the runs of a window hold.
-use Rattle.command_rules.specs.Rosters.{commands_of, is_on}
-use Rattle.device_order.specs.LineWords.{CutAt}
-use Rattle.device_order.specs.WindowSteps.{ChangesInPlace}
-use Rattle.device_order.specs.declared.records.HeldGrip.TheVariants.{Free}
-use Rattle.history_book.proofs.Cited.{some_is}
-use Rattle.history_book.specs.Readings.{OfRun, Reading, is_committing, put}
-use Rattle.history_book.specs.Settings.{Setting, is_device}
-use Rattle.home_types.specs.Commands.{holds}
-use Rattle.lock_leasing.specs.Configurations.{Grip, Grips, is_out, point}
-use Rattle.lock_leasing.specs.declared.purposes.Purpose.TheVariants.{Commands, Probes, Undoes}
-use Rattle.lock_leasing.specs.declared.purposes.Purpose.{Purpose}
-use Rattle.lock_leasing.specs.Places.{GripsFit}
-use Rattle.lock_leasing.specs.Waits.{grip_wait}
-use Rattle.std.proofs.Common.{ap, arith, refl, subst, sym, ◌∙◌}
-use Rattle.std.proofs.lemmas.Bool.{eq-eqb, eqb-true}
-use Rattle.std.proofs.lemmas.Grind.{common_steps}
-use Rattle.std.specs.List.{range_with_len}
-use Rattle.std.specs.Prelude.{Bool, IsTrue, None, Option, Some, cond, false, find, if◌then◌else◌, is_none, is_some, length, nat_lt, not, option_map, slice_get, suc, true, unwrap_or, zero, ℕ, ◌&&◌, ◌+◌, ◌<◌, ◌==◌, ◌≡◌, ◌≢◌, ◌≤◌}
-use Rattle.window_order.specs.ReadWindows.{held_by, held_for, window_of}
+use Rattle.window_order.proofs.Prelude.{Bool, ChangesInPlace, Commands, CutAt, Free, Grip, Grips, GripsFit, IsTrue, None, OfRun, Option, Probes, Purpose, Reading, Setting, Some, Undoes, ap, arith, commands_of, common_steps, cond, eq-eqb, eqb-true, false, find, grip_wait, held_by, held_for, holds, if◌then◌else◌, is_committing, is_device, is_none, is_on, is_out, is_some, length, nat_lt, not, option_map, point, put, range_with_len, refl, slice_get, some_is, subst, suc, sym, true, unwrap_or, window_of, zero, ℕ, ◌&&◌, ◌+◌, ◌<◌, ◌==◌, ◌∙◌, ◌≡◌, ◌≢◌, ◌≤◌}
 
 -- the run's command of this number may be out: it is the next one, and its guard holds
 abbrev pub may_command : Setting → ℕ → ℕ → ℕ → OfRun → Bool

@@ -1,23 +1,6 @@
 -- The order of first accesses and events in the line and in the history, where an entry comes.
-use Rattle.command_rules.specs.Items.{is_ran, of_run}
-use Rattle.command_rules.specs.Rosters.{run_no}
-use Rattle.device_order.specs.LineChanges.{Lacks}
-use Rattle.device_order.specs.LineWords.{CutAt}
-use Rattle.history_book.proofs.Cited.{any_insert, any_other, any_without, is_event_of}
-use Rattle.history_book.specs.Lines.{is_event_on, without}
-use Rattle.history_book.specs.Readings.{Event, First, Last, LogMark, Reading, did, is_doomed, is_event, is_first_mark, is_last_mark, sees_up, span_of, view_of}
-use Rattle.home_types.specs.declared.items.Item.TheVariants.{Back, Failed, Ran}
-use Rattle.home_types.specs.declared.items.Item.{Item}
-use Rattle.home_types.specs.declared.numbers.DeviceNo.{DeviceNo}
-use Rattle.home_types.specs.declared.numbers.RunNo.{RunNo}
-use Rattle.lock_leasing.specs.Order.{InHistoryOrder, firsts_of_line, firsts_of_log, is_in_line, is_late, marks_of_line, marks_of_log}
-use Rattle.std.proofs.Common.{ap, arith, cond, refl, subst, sym, ◌∙◌}
-use Rattle.std.proofs.lemmas.Bool.{and_parts, and_right, both_ways, eq-eqb, eqb-false, eqb-true, or_from, or_left, or_parts}
-use Rattle.std.proofs.lemmas.Grind.{common_steps}
+use Rattle.window_order.proofs.Prelude.{Back, Bool, CutAt, DeviceNo, Event, Failed, First, InHistoryOrder, IsTrue, Item, Lacks, Last, List, LogMark, None, Option, Ran, Reading, RunNo, Some, [], and_parts, and_right, any_insert, any_other, any_without, ap, arith, both_ways, common_steps, cond, cons_option, did, eq-eqb, eqb-false, eqb-true, false, filter, filter_map, firsts_of_line, firsts_of_log, if◌then◌else◌, is_doomed, is_event, is_event_of, is_event_on, is_first_mark, is_in_line, is_last_mark, is_late, is_ran, is_some, list_any, marks_of_line, marks_of_log, not, of_run, or_from, or_left, or_parts, refl, run_no, sees_up, span_of, subst, sym, take_while, take_while-cons, true, unwrap_or, view_of, without, ℕ, ◌&&◌, ◌++◌, ◌==◌, ◌||◌, ◌∙◌, ◌∷◌, ◌≡◌, ◌≢◌}
 use Rattle.std.proofs.lemmas.List.Elements.{filter_map-append}
-use Rattle.std.proofs.lemmas.List.Sums.{take_while-cons}
-use Rattle.std.specs.List.{cons_option, list_any}
-use Rattle.std.specs.Prelude.{Bool, IsTrue, List, None, Option, Some, [], false, filter, filter_map, if◌then◌else◌, is_some, not, take_while, true, unwrap_or, ℕ, ◌&&◌, ◌++◌, ◌==◌, ◌||◌, ◌∷◌, ◌≡◌, ◌≢◌}
 
 -- Lists
 

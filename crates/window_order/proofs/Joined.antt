@@ -1,35 +1,15 @@
 -- A run is placed: the line is rearranged, and the run goes in at a clear place.
 use Rattle.command_rules.specs.ClosedSets.{rearranged}
-use Rattle.command_rules.specs.Rosters.{run_no}
-use Rattle.history_book.proofs.Cited.{line_any, line_count, line_part}
+use Rattle.window_order.proofs.Prelude.{ChangesEach, Grips, GripsFit, IsClear, Item, LineageState, List, Mark, MarksAreKept, OrderIsKept, Placed, Ran, Reading, Setting, TableIsKept, ap, entry, in_order, line_any, line_count, line_part, line_rearranged, may_follow, placed_change, planned_times, point, refl, run_no, scheduler_of, subst, sym, true, with_item, ℕ, ◌≡◌}
 use Rattle.history_book.specs.Gaps.{front_for, gap_set, line_for, split_of}
-use Rattle.history_book.specs.Histories.{entry}
-use Rattle.history_book.specs.Plans.{planned_times}
-use Rattle.history_book.specs.Readings.{Reading}
-use Rattle.history_book.specs.Settings.{Setting, scheduler_of}
-use Rattle.history_book.specs.WellFormed.{may_follow}
-use Rattle.history_book.specs.declared.entries.Entry.TheVariants.{Placed}
-use Rattle.home_types.specs.declared.items.Item.TheVariants.{Ran}
-use Rattle.home_types.specs.declared.items.Item.{Item}
 use Rattle.home_types.specs.declared.modes.Scheduler.TheVariants.{Fcfs, JustInTime, Timeline}
 use Rattle.home_types.specs.declared.modes.Scheduler.{Scheduler}
-use Rattle.lineage_table.specs.Lineages.{LineageState}
-use Rattle.lock_leasing.specs.Configurations.{Grips, point}
-use Rattle.lock_leasing.specs.Places.{GripsFit, IsClear, in_order}
-use Rattle.serial_line.proofs.Cited.{line_rearranged}
-use Rattle.serial_line.specs.Marks.{Mark, with_item}
-use Rattle.std.proofs.Common.{ap, refl, subst, sym}
-use Rattle.std.specs.Prelude.{List, true, ℕ, ◌≡◌}
 use Rattle.window_order.proofs.Grips.{fits_same}
 use Rattle.window_order.proofs.ReadFacts.{IsRead}
 use Rattle.window_order.proofs.Rearranged.{HasSameParts, order_kept, read_kept, table_kept}
 use Rattle.window_order.proofs.Steps.{placed_kept}
 use Rattle.window_order.proofs.TableSteps.{placed_table}
 use Rattle.window_order.proofs.TouchedLines.{marks_placed}
-use Rattle.window_order.specs.MarksKept.{MarksAreKept}
-use Rattle.window_order.specs.OrderKept.{OrderIsKept}
-use Rattle.window_order.specs.TableChanges.{ChangesEach, placed_change}
-use Rattle.window_order.specs.TableKept.{TableIsKept}
 
 pub same_parts : (w : Setting) (n : Reading) (r m : ℕ) → HasSameParts w n.line (line_for w n r m)
 same_parts w n r m = record { some = line_any w n r m; many = line_count w n r m; parts = line_part w n r m }

@@ -1,35 +1,7 @@
 -- The order of a window is kept where one run more joins the window: the invariant of its devices and runs, and the lineage table, which needs room for the accesses of the new run.
-use Rattle.command_rules.specs.Rosters.{Run, commands_of, is_on, is_run, no_command, touches}
-use Rattle.device_order.specs.Invariant.{DeviceInvariant}
-use Rattle.device_order.specs.LineEntries.{command_grip, entries, entry_if, entry_of, usage, with_order_entry}
-use Rattle.device_order.specs.RunStates.{RunState, answered_commands, paired, uses_device}
-use Rattle.device_order.specs.Summaries.{AnswersFit, AreHomed, NoCommandFails, blank}
-use Rattle.device_order.specs.Windows.{RunInvariant, WindowInvariant, device_record}
-use Rattle.device_order.specs.declared.records.HeldGrip.TheVariants.{Free}
-use Rattle.device_order.specs.declared.records.OrderEntry.TheVariants.{Used}
-use Rattle.history_book.proofs.Cited.{ReadsOwn, Shaped, first_holds, is_stray, live_own, masked, own_commands, own_passed, own_pends, own_touches}
+use Rattle.window_order.proofs.Prelude.{Acquired, AnswersFit, AreHomed, Back, Bool, Command, Commands, DeviceInvariant, Failed, Free, Grip, Grips, Item, Kind, LineageIsKept, LineageState, List, NoCommandFails, None, Option, OrderIsKept, Point, Probes, Purpose, Ran, Reading, ReadsOwn, Released, Run, RunInvariant, RunState, Scheduled, Setting, Shaped, Some, Status, TableIsKept, Undoes, Used, WindowInvariant, [], access_read, accesses_along, accesses_read, answered_commands, ap, arith, blank, command_grip, commands_of, commits_write, device_record, did, entries, entry_if, entry_of, false, first_holds, grips_command, held_by, held_for, if◌then◌else◌, is_committed, is_committing, is_doomed, is_live, is_none, is_on, is_run, is_some, is_stray, joined_grips, length, lineage_at, list_any, live_own, masked, no_command, not, option_map, own_commands, own_passed, own_pends, own_touches, paired, passed_by, pends, point, refl, run_state, slice_index_or, status_by_answers, subst, suc, sym, touches, true, unplaced_among, unwrap_or, usage, uses, uses_device, window_of, with_order_entry, ℕ, ◌&&◌, ◌++◌, ◌+◌, ◌<◌, ◌==◌, ◌||◌, ◌∙◌, ◌∷◌, ◌≡◌, ◌≤◌}
 use Rattle.history_book.specs.Joined.{with_joined}
-use Rattle.history_book.specs.Readings.{Reading, did, is_committed, is_committing, is_doomed, is_live, passed_by, pends}
-use Rattle.history_book.specs.Settings.{Setting}
-use Rattle.home_types.specs.declared.commands.Command.{Command}
-use Rattle.home_types.specs.declared.items.Item.TheVariants.{Back, Failed, Ran}
-use Rattle.home_types.specs.declared.items.Item.{Item}
-use Rattle.home_types.specs.declared.kinds.Kind.{Kind}
-use Rattle.lineage_table.specs.Lineages.{LineageState, lineage_at}
-use Rattle.lineage_table.specs.declared.accesses.Status.TheVariants.{Acquired, Released, Scheduled}
-use Rattle.lineage_table.specs.declared.accesses.Status.{Status}
-use Rattle.lock_leasing.proofs.Cited.{joined_grips}
-use Rattle.lock_leasing.specs.Configurations.{Grip, Grips, Point, grips_command, point}
-use Rattle.lock_leasing.specs.Tables.{status_by_answers, uses}
-use Rattle.lock_leasing.specs.declared.purposes.Purpose.TheVariants.{Commands, Probes, Undoes}
-use Rattle.lock_leasing.specs.declared.purposes.Purpose.{Purpose}
-use Rattle.std.proofs.Common.{ap, arith, refl, subst, sym, ◌∙◌}
-use Rattle.std.specs.List.{list_any}
-use Rattle.std.specs.Prelude.{Bool, List, None, Option, Some, [], false, if◌then◌else◌, is_none, is_some, length, not, option_map, slice_index_or, suc, true, unwrap_or, ℕ, ◌&&◌, ◌+◌, ◌++◌, ◌<◌, ◌==◌, ◌||◌, ◌∷◌, ◌≡◌, ◌≤◌}
 use Rattle.window_order.specs.Joins.{HasMoreRoom}
-use Rattle.window_order.specs.OrderKept.{OrderIsKept}
-use Rattle.window_order.specs.ReadWindows.{held_by, held_for, run_state, window_of}
-use Rattle.window_order.specs.TableKept.{LineageIsKept, TableIsKept, access_read, accesses_along, accesses_read, commits_write, unplaced_among}
 
 none_first : (a b : Bool) → (a || b) ≡ false → a ≡ false
 none_first true b e = e

@@ -1,8 +1,6 @@
 -- Where the items of a set are brought before the others, those that are sealed stay in front.
 use Rattle.command_rules.specs.ClosedSets.{HoldsFirst, chosen, others, rearranged}
-use Rattle.serial_line.specs.Marks.{Mark, front_of, is_open_run}
-use Rattle.std.proofs.Common.{arith}
-use Rattle.std.specs.Prelude.{Bool, List, [], false, if◌then◌else◌, suc, true, zero, ℕ, ◌+◌, ◌∷◌, ◌≤◌}
+use Rattle.window_order.proofs.Prelude.{Bool, List, Mark, [], arith, false, front_of, if◌then◌else◌, is_open_run, suc, true, zero, ℕ, ◌+◌, ◌∷◌, ◌≤◌}
 
 -- no fewer items stand before the first live run
 pub front_rearranged : (set : List Bool) (ms : List Mark) (k : ℕ) → HoldsFirst k set → k ≤ front_of ms → k ≤ front_of (rearranged set ms)

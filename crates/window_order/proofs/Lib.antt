@@ -1,5 +1,6 @@
 mod ClosedSpans
 mod NumberedEvents
+mod Prelude
 mod ReadFacts
 mod PromisedWords
 mod StandingValues

@@ -1,29 +1,5 @@
 -- The run that is lost where a device fails, and the run before which its event stands, read off the device's lineage.
-use Rattle.command_rules.specs.Items.{is_ran, of_run}
-use Rattle.command_rules.specs.Rosters.{commands_of, run_no, touches}
-use Rattle.device_order.specs.LineChanges.{Lacks}
-use Rattle.device_order.specs.LineEntries.{stage_of, usage}
-use Rattle.device_order.specs.LineWords.{CutAt, RunsAreDistinct}
-use Rattle.device_order.specs.RunStates.{uses_device}
-use Rattle.device_order.specs.Usages.{is_up, stage_is_open}
-use Rattle.history_book.specs.Readings.{Reading, did, is_doomed, is_live, is_open, next_of, pends, sees_up, view_of}
-use Rattle.history_book.specs.Settings.{Setting, is_device, is_weak}
-use Rattle.home_types.specs.declared.commands.View.TheVariants.{Down}
-use Rattle.home_types.specs.declared.items.Item.TheVariants.{Back, Failed, Ran}
-use Rattle.home_types.specs.declared.items.Item.{Item}
-use Rattle.lineage_table.specs.Accesses.{is_acquired, is_scheduled}
-use Rattle.lineage_table.specs.Lineages.{LineageState}
-use Rattle.lineage_table.specs.declared.accesses.Access.{Access}
-use Rattle.lineage_table.specs.declared.accesses.Status.TheVariants.{Acquired, Released, Scheduled}
-use Rattle.lock_leasing.specs.Configurations.{Grips, grips_command, point}
-use Rattle.lock_leasing.specs.Tables.{may_be_passed, status_by_answers, uses, view_when}
-use Rattle.lock_leasing.specs.Waits.{lost_by}
-use Rattle.lock_leasing.specs.Words.{live_runs}
-use Rattle.std.proofs.Common.{ap, arith, cond, refl, subst, sym, ◌∙◌}
-use Rattle.std.proofs.lemmas.Bool.{and_parts, eq-eqb, or_left}
-use Rattle.std.proofs.lemmas.Grind.{common_steps}
-use Rattle.std.specs.List.{cons_option, list_any}
-use Rattle.std.specs.Prelude.{Bool, List, None, Option, Some, [], false, find, if◌then◌else◌, is_some, not, option_map, true, unwrap_or, ℕ, ◌&&◌, ◌++◌, ◌==◌, ◌||◌, ◌∷◌, ◌≡◌}
+use Rattle.window_order.proofs.Prelude.{Access, Acquired, Back, Bool, CutAt, Down, Failed, Grips, Item, Lacks, LineageIsKept, LineageState, List, None, Option, OrderIsKept, Ran, Reading, Released, RunsAreDistinct, Scheduled, Setting, Some, [], access_read, accesses_along, and_parts, ap, arith, commands_of, commits_write, common_steps, cond, cons_option, did, eq-eqb, false, find, grips_command, if◌then◌else◌, is_acquired, is_device, is_doomed, is_live, is_open, is_ran, is_scheduled, is_some, is_up, is_weak, list_any, live_runs, lost_by, may_be_passed, next_of, not, of_run, option_map, or_left, pends, point, refl, run_no, run_state, sees_up, stage_is_open, stage_of, status_by_answers, subst, sym, touches, true, unwrap_or, usage, uses, uses_device, view_of, view_when, ℕ, ◌&&◌, ◌++◌, ◌==◌, ◌||◌, ◌∙◌, ◌∷◌, ◌≡◌}
 use Rattle.window_order.proofs.AccessLists.{distinct_parts}
 use Rattle.window_order.proofs.AnsweredTables.{none_commits, pending_touches, uses_now}
 use Rattle.window_order.proofs.EventPlaces.{awaits_there}
@@ -31,9 +7,6 @@ use Rattle.window_order.proofs.Goes.{open_behind}
 use Rattle.window_order.proofs.ReadFacts.{IsRead, rest_drop, runs_distinct}
 use Rattle.window_order.proofs.Runs.{live_uncommitted}
 use Rattle.window_order.specs.LostRuns.{first_waiting_run, is_access_waiting, is_lost_access, lost_on}
-use Rattle.window_order.specs.OrderKept.{OrderIsKept}
-use Rattle.window_order.specs.ReadWindows.{run_state}
-use Rattle.window_order.specs.TableKept.{LineageIsKept, access_read, accesses_along, commits_write}
 
 -- the run is live and not doomed, sees the device up, and has more to do there
 abbrev spans_there : Setting → Reading → ℕ → ℕ → Bool

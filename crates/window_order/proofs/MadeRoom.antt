@@ -1,14 +1,6 @@
 -- Room in a lineage table for a run that joins the window, made command after command.
-use Rattle.command_rules.specs.Rosters.{Run, is_on}
-use Rattle.history_book.proofs.Cited.{among_more, differ, is_among}
-use Rattle.home_types.specs.declared.commands.Command.{Command}
-use Rattle.lineage_table.specs.Lineages.{LineageState, lineage_at, no_lineage, with_lineage, with_more_room}
-use Rattle.std.proofs.Common.{ap, arith, refl, sym, ◌∙◌}
+use Rattle.window_order.proofs.Prelude.{All, Bool, Command, LineageState, List, Run, [], among_more, ap, arith, differ, eqb-true, false, get_or, get_or-set_other, if◌then◌else◌, is_among, is_on, length, lineage_at, list_any, no_lineage, refl, sym, take_all, true, with_lineage, with_more_room, ℕ, ◌+◌, ◌<◌, ◌==◌, ◌||◌, ◌∙◌, ◌≡◌, ◌≤◌}
 use Rattle.std.proofs.Math.Bool.{or-false, or-true}
-use Rattle.std.proofs.lemmas.Bool.{eqb-true}
-use Rattle.std.proofs.lemmas.List.{get_or-set_other, take_all}
-use Rattle.std.specs.List.{All, list_any}
-use Rattle.std.specs.Prelude.{Bool, List, [], false, get_or, if◌then◌else◌, length, true, ℕ, ◌+◌, ◌<◌, ◌==◌, ◌||◌, ◌≡◌, ◌≤◌}
 use Rattle.window_order.proofs.NotedAnswers.{length_set, lineage_set}
 use Rattle.window_order.specs.Joins.{HasMoreRoom, HasRoomFor}
 

@@ -1,24 +1,12 @@
 -- How the calls of a lineage table that note an answer are one change.
-use Rattle.home_types.specs.declared.commands.View.{View}
+use Rattle.window_order.proofs.Prelude.{Access, Acquired, AllByRecursion, AreInTurn, Bool, IsDisciplined, IsFirst, IsTrue, IsWaiting, LineageState, List, None, Option, Released, Scheduled, Some, Status, View, [], access_of, accesses_at, accesses_before, acquired, acquired_if, answer_noted, ap, arith, both_ways, common_steps, false, find, get_or-set_same, if◌then◌else◌, is_of, is_released, is_scheduled, length, length-set, lineage_at, no_lineage, not, option_map, or_from, pairs_from_all, passed, refl, released_if, set-get_or, slice_set, some_scheduled, status_of, subst, sym, true, with_change, with_lineage, written_if, ℕ, ◌<◌, ◌||◌, ◌∙◌, ◌∷◌, ◌≡◌}
 use Rattle.window_order.specs.OrderStates.{MayNote, is_first, noted_first}
-use Rattle.lineage_table.proofs.Cited.{Pairs, pairs_from_all}
-use Rattle.lineage_table.specs.Accesses.{AreInTurn, IsDisciplined, access_of, accesses_before, is_of, is_released, is_scheduled, some_scheduled, status_of, with_change}
+use Rattle.lineage_table.proofs.Cited.{Pairs}
 use Rattle.lineage_table.specs.Answers.{answered_access, answered_if, lineage_answered}
-use Rattle.lineage_table.specs.Lineages.{LineageState, accesses_at, acquired, lineage_at, no_lineage, with_lineage}
-use Rattle.lineage_table.specs.declared.accesses.Access.{Access}
-use Rattle.lineage_table.specs.declared.accesses.Status.TheVariants.{Acquired, Released, Scheduled}
-use Rattle.lineage_table.specs.declared.accesses.Status.{Status}
-use Rattle.std.proofs.Common.{IsTrue, ap, arith, refl, subst, sym, ◌∙◌}
-use Rattle.std.proofs.lemmas.Bool.{both_ways, or_from}
-use Rattle.std.proofs.lemmas.Grind.{common_steps}
-use Rattle.std.proofs.lemmas.List.{get_or-set_same, length-set, set-get_or}
 use Rattle.std.proofs.lemmas.Option.{same_Some}
-use Rattle.std.specs.List.{AllByRecursion}
-use Rattle.std.specs.Prelude.{Bool, List, None, Option, Some, [], false, find, if◌then◌else◌, length, not, option_map, slice_set, true, ℕ, ◌<◌, ◌||◌, ◌∷◌, ◌≡◌}
 use Rattle.window_order.proofs.AnsweredTables.{acquire_access, release_access, with_none, with_twice, write_access}
 use Rattle.window_order.proofs.PassedAccesses.{pass_none, passed_first, waits}
 use Rattle.window_order.proofs.TableSteps.{with_both}
-use Rattle.window_order.specs.TableChanges.{IsFirst, IsWaiting, acquired_if, answer_noted, passed, released_if, written_if}
 
 -- a change that leaves the lineage leaves the table
 pub with_same : (table : List LineageState) (d : ℕ) → with_lineage table d (λ s. s) ≡ table

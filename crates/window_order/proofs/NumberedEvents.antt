@@ -1,21 +1,6 @@
 -- The failures of a device in the line have numbers up to how often it failed, and its restarts up to how often it came back.
-use Rattle.command_rules.specs.Items.{is_ran}
-use Rattle.history_book.proofs.Cited.{any_insert, any_put_before, split_any}
-use Rattle.history_book.specs.Histories.{entry, reading}
+use Rattle.window_order.proofs.Prelude.{Aborted, Arrived, Back, Bool, Committed, Did, Doomed, Ended, Entry, Failed, Fell, Item, List, Placed, Ran, Reading, Rose, Setting, Undid, [], any_insert, any_put_before, arith, common_steps, cond, entry, eqb-true, false, filter, fold, if◌then◌else◌, is_failure, is_ran, is_restart_of, list_any, not, nothing_read, or_parts, put, reading, refl, split_any, subst, sym, true, ℕ, ◌&&◌, ◌+◌, ◌<◌, ◌==◌, ◌||◌, ◌∙◌, ◌∷◌, ◌≡◌}
 use Rattle.history_book.specs.Gaps.{split_of}
-use Rattle.history_book.specs.Readings.{Reading, nothing_read, put}
-use Rattle.history_book.specs.Settings.{Setting}
-use Rattle.history_book.specs.declared.entries.End.TheVariants.{Aborted, Committed}
-use Rattle.history_book.specs.declared.entries.Entry.TheVariants.{Arrived, Did, Doomed, Ended, Fell, Placed, Rose, Undid}
-use Rattle.history_book.specs.declared.entries.Entry.{Entry}
-use Rattle.home_types.specs.declared.items.Item.TheVariants.{Back, Failed, Ran}
-use Rattle.home_types.specs.declared.items.Item.{Item}
-use Rattle.serial_line.specs.Marks.{is_failure, is_restart_of}
-use Rattle.std.proofs.Common.{arith, cond, refl, subst, sym, ◌∙◌}
-use Rattle.std.proofs.lemmas.Bool.{eqb-true, or_parts}
-use Rattle.std.proofs.lemmas.Grind.{common_steps}
-use Rattle.std.specs.List.{list_any}
-use Rattle.std.specs.Prelude.{Bool, List, [], false, filter, fold, if◌then◌else◌, not, true, ℕ, ◌&&◌, ◌+◌, ◌<◌, ◌==◌, ◌||◌, ◌∷◌, ◌≡◌}
 
 -- no event of the device stands in the line with a greater number
 pub record EventsAreNumbered (n : Reading) : Type 0 where

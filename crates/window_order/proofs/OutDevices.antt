@@ -1,28 +1,10 @@
 -- How a device is counted that is out: up for a command, by a run that does not see it down, and for an undo and where it is asked, and down where it is restored.
-use Rattle.command_rules.specs.Rosters.{touches}
-use Rattle.device_order.proofs.Cited.{Cut, cut as use_cut, held_end}
-use Rattle.device_order.specs.Invariant.{DeviceFits}
-use Rattle.device_order.specs.LineEntries.{entries, usage}
-use Rattle.device_order.specs.LineWords.{CutAt}
-use Rattle.device_order.specs.Records.{walk_start}
-use Rattle.device_order.specs.Usages.{holds_command, holds_grip, is_free, is_seen_down}
-use Rattle.device_order.specs.Walks.{GripFits, WalkHolds, after_usage, is_home, walk_end}
-use Rattle.device_order.specs.declared.records.HeldGrip.TheVariants.{Free, Reads, Undoes as HeldToUndo, Writes}
+use Rattle.window_order.proofs.Prelude.{Bool, Commands, Cut, CutAt, DeviceFits, Free, GripFits, Grips, List, None, Option, OrderEntry, OrderIsKept, Probes, Reading, Reads, Setting, Some, Undoes, Usage, Used, WalkHolds, WalkState, Writes, after_usage, ap, arith, common_steps, entries, false, has_written, held_by, held_end, holds_command, holds_grip, is_device, is_doomed, is_free, is_home, is_live, is_seen_down, is_some, not, option_map, point, probe_of, refl, run_state, sees_down, stand_at, subst, sym, touches, true, unwrap_or, usage, view_of, walk_end, walk_start, window_of, ℕ, ◌&&◌, ◌++◌, ◌∙◌, ◌∷◌, ◌≡◌}
+use Rattle.device_order.proofs.Cited.{cut as use_cut}
+use Rattle.device_order.specs.declared.records.HeldGrip.TheVariants.{Undoes as HeldToUndo}
 use Rattle.device_order.specs.declared.records.HeldGrip.{HeldGrip}
-use Rattle.device_order.specs.declared.records.OrderEntry.TheVariants.{Used}
-use Rattle.device_order.specs.declared.records.OrderEntry.{OrderEntry}
 use Rattle.device_order.specs.declared.records.Probe.TheVariants.{Asks, Restores}
 use Rattle.device_order.specs.declared.records.Probe.{Probe}
-use Rattle.device_order.specs.declared.records.Usage.{Usage}
-use Rattle.device_order.specs.declared.walks.WalkState.{WalkState}
-use Rattle.history_book.specs.Readings.{Reading, has_written, is_doomed, is_live, sees_down, view_of}
-use Rattle.history_book.specs.Settings.{Setting, is_device}
-use Rattle.home_types.specs.HomeStates.{stand_at}
-use Rattle.lock_leasing.specs.Configurations.{Grips, point}
-use Rattle.lock_leasing.specs.declared.purposes.Purpose.TheVariants.{Commands, Probes, Undoes}
-use Rattle.std.proofs.Common.{ap, arith, refl, subst, sym, ◌∙◌}
-use Rattle.std.proofs.lemmas.Grind.{common_steps}
-use Rattle.std.specs.Prelude.{Bool, List, None, Option, Some, false, is_some, not, option_map, true, unwrap_or, ℕ, ◌&&◌, ◌++◌, ◌∷◌, ◌≡◌}
 use Rattle.window_order.proofs.Firsts.{below_home, device_order_at}
 use Rattle.window_order.proofs.GripWords.{own_command}
 use Rattle.window_order.proofs.Grips.{held_own}
@@ -31,8 +13,6 @@ use Rattle.window_order.proofs.ReadFacts.{IsRead, view_from}
 use Rattle.window_order.proofs.Runs.{cut_live}
 use Rattle.window_order.proofs.StandingValues.{ActsOn, acts_on}
 use Rattle.window_order.proofs.Steps.{out_is}
-use Rattle.window_order.specs.OrderKept.{OrderIsKept}
-use Rattle.window_order.specs.ReadWindows.{held_by, probe_of, run_state, window_of}
 
 out_up : (e : WalkState) (up : Bool) (held : ℕ) (p : Probe) → is_home e.out ≡ false → DeviceFits e up held p → up ≡ true
 out_up e up held p h x = grind (arith, common_steps)

@@ -1,19 +1,6 @@
 -- How the scheduled accesses before a run's are passed, one after another.
-use Rattle.history_book.proofs.Cited.{count_insert}
-use Rattle.home_types.specs.declared.commands.View.TheVariants.{Down}
-use Rattle.lineage_table.proofs.Cited.{Pairs, acquired_at, before_at, pairs_from_all, pairs_front, pass_at, status_at}
-use Rattle.lineage_table.specs.Accesses.{AreOfTwoRuns, IsDisciplined, accesses_before, has_access, is_acquired, is_of, is_scheduled, some_acquired, some_scheduled, status_of}
-use Rattle.lineage_table.specs.Lineages.{LineageState, acquired, released}
-use Rattle.lineage_table.specs.declared.accesses.Access.{Access}
-use Rattle.lineage_table.specs.declared.accesses.Status.TheVariants.{Acquired, Released, Scheduled}
-use Rattle.lineage_table.specs.declared.accesses.Status.{Status}
-use Rattle.std.proofs.Common.{ap, arith, cond, refl, subst, sym, ◌∙◌}
-use Rattle.std.proofs.lemmas.Bool.{or_from, or_parts}
-use Rattle.std.proofs.lemmas.Grind.{common_steps}
-use Rattle.std.proofs.lemmas.List.Folds.{list_any-append}
-use Rattle.std.specs.List.{AllByRecursion}
-use Rattle.std.specs.Prelude.{Bool, List, None, Option, Some, [], count_by, false, find, if◌then◌else◌, map, not, option_map, true, unwrap_or, ℕ, ◌++◌, ◌+◌, ◌<◌, ◌==◌, ◌||◌, ◌∷◌, ◌≡◌}
-use Rattle.window_order.specs.TableChanges.{IsFirst, IsWaiting, pass_access, passed, with_passed}
+use Rattle.window_order.proofs.Prelude.{Access, Acquired, AllByRecursion, AreOfTwoRuns, Bool, Down, IsDisciplined, IsFirst, IsWaiting, LineageState, List, None, Option, Released, Scheduled, Some, Status, [], accesses_before, acquired, acquired_at, ap, arith, before_at, common_steps, cond, count_by, count_insert, false, find, has_access, if◌then◌else◌, is_acquired, is_of, is_scheduled, list_any-append, map, not, option_map, or_from, or_parts, pairs_from_all, pairs_front, pass_access, pass_at, passed, refl, released, some_acquired, some_scheduled, status_at, status_of, subst, sym, true, unwrap_or, with_passed, ℕ, ◌++◌, ◌+◌, ◌<◌, ◌==◌, ◌||◌, ◌∙◌, ◌∷◌, ◌≡◌}
+use Rattle.lineage_table.proofs.Cited.{Pairs}
 
 -- the access is scheduled
 abbrev pub waits : Access → Bool

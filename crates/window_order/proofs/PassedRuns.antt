@@ -1,18 +1,8 @@
 -- How the accesses before a run's are passed by calls of a lineage table.
-use Rattle.history_book.proofs.Cited.{map_none, map_some}
-use Rattle.home_types.specs.declared.commands.View.TheVariants.{Down}
-use Rattle.home_types.specs.declared.numbers.DeviceNo.{DeviceNo}
-use Rattle.home_types.specs.declared.numbers.RunNo.{RunNo}
+use Rattle.window_order.proofs.Prelude.{Access, Bool, DeviceNo, Down, IsDisciplined, IsFirst, IsWaiting, LineageState, List, None, Option, RunNo, Some, accesses_at, acquired, ap, doomed_lineage, doomed_unless, false, first_before, has_access, has_acquired, if◌then◌else◌, is_acquired, is_named_device, is_scheduled, length, lineage_at, map_none, map_some, no_access, option_map, passed, refl, released, released_if, slice_set, subst, sym, true, unwrap_or, with_lineage, ℕ, ◌<◌, ◌∙◌, ◌≡◌}
 use Rattle.window_order.proofs.NotedAnswers.{length_set, lineage_set, with_same}
-use Rattle.lineage_table.specs.Accesses.{IsDisciplined, first_before, has_access, is_acquired, is_scheduled}
-use Rattle.lineage_table.proofs.Cited.{no_access}
-use Rattle.lineage_table.specs.declared.accesses.Access.{Access}
-use Rattle.lineage_table.specs.Lineages.{LineageState, accesses_at, acquired, lineage_at, released, with_lineage}
-use Rattle.std.proofs.Common.{ap, refl, subst, sym, ◌∙◌}
-use Rattle.std.specs.Prelude.{Bool, List, None, Option, Some, false, if◌then◌else◌, length, option_map, slice_set, true, unwrap_or, ℕ, ◌<◌, ◌≡◌}
 use Rattle.window_order.proofs.PassedAccesses.{PassesFirst, pass_first, pass_none, waits_before}
 use Rattle.window_order.proofs.TableSteps.{with_both}
-use Rattle.window_order.specs.TableChanges.{IsFirst, IsWaiting, doomed_lineage, doomed_unless, has_acquired, is_named_device, passed, released_if}
 
 -- a doom is nothing on a device to which the run has no access
 pub dooms_nothing : (out : Option DeviceNo) (r d : ℕ) (s : LineageState) → has_access r s.accesses ≡ false → doomed_unless out r d s ≡ s

@@ -1,29 +1,8 @@
 -- Accesses are passed: those of doomed runs before a run that touches the device for the first time.
-use Rattle.command_rules.specs.Items.{is_ran}
-use Rattle.command_rules.specs.Rosters.{run_no, touches}
-use Rattle.device_order.specs.LineWords.{CutAt, RunsAreDistinct}
-use Rattle.history_book.specs.Plans.{planned_end, planned_start}
-use Rattle.history_book.specs.Readings.{Reading, did, is_doomed, is_live, pends, view_of}
-use Rattle.history_book.specs.Settings.{Setting}
-use Rattle.home_types.specs.declared.commands.View.TheVariants.{Down}
-use Rattle.home_types.specs.declared.commands.View.{View}
-use Rattle.lineage_table.specs.Accesses.{has_access, is_acquired, is_of, is_scheduled}
-use Rattle.lineage_table.specs.Lineages.{LineageState}
-use Rattle.lineage_table.specs.declared.accesses.Access.{Access}
-use Rattle.lineage_table.specs.declared.accesses.Status.TheVariants.{Acquired, Released, Scheduled}
-use Rattle.lineage_table.specs.declared.accesses.Status.{Status}
-use Rattle.lock_leasing.specs.Configurations.{Grips, grips_command, point}
-use Rattle.lock_leasing.specs.Tables.{may_be_passed, status_by_answers, uses, view_when}
-use Rattle.lock_leasing.specs.Words.{is_undone}
-use Rattle.std.proofs.Common.{ap, arith, refl, subst, sym, ◌∙◌}
-use Rattle.std.proofs.lemmas.Grind.{common_steps}
-use Rattle.std.specs.List.{list_any}
-use Rattle.std.specs.Prelude.{Bool, List, None, Option, Some, [], false, if◌then◌else◌, map, not, option_map, true, ℕ, ◌&&◌, ◌++◌, ◌==◌, ◌||◌, ◌∷◌, ◌≡◌, ◌≢◌}
+use Rattle.window_order.proofs.Prelude.{Access, Acquired, Bool, CutAt, Down, Grips, LineageIsKept, LineageState, List, None, Option, Reading, Released, RunsAreDistinct, Scheduled, Setting, Some, Status, View, [], access_read, accesses_along, ap, arith, commits_write, common_steps, did, false, grips_command, has_access, if◌then◌else◌, is_acquired, is_doomed, is_live, is_of, is_ran, is_scheduled, is_undone, list_any, map, may_be_passed, not, option_map, pass_access, passed, pends, planned_end, planned_start, point, refl, run_no, status_by_answers, subst, sym, touches, true, uses, view_of, view_when, with_passed, ℕ, ◌&&◌, ◌++◌, ◌==◌, ◌||◌, ◌∙◌, ◌∷◌, ◌≡◌, ◌≢◌}
 use Rattle.window_order.proofs.AccessLists.{along_each, apart, front_accesses, front_each, lacks_none, lacks_ran}
 use Rattle.window_order.proofs.AnsweredTables.{TouchesNow, accesses_around, none_in_front}
 use Rattle.window_order.proofs.ReadFacts.{IsRead, runs_distinct}
-use Rattle.window_order.specs.TableChanges.{pass_access, passed, with_passed}
-use Rattle.window_order.specs.TableKept.{LineageIsKept, access_read, accesses_along, commits_write}
 
 -- A list of accesses
 

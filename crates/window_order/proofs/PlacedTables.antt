@@ -1,43 +1,10 @@
 -- The lineages as a window opens, as a run arrives, and as one is placed in the line.
-use Rattle.command_rules.specs.Items.{is_ran, of_run}
-use Rattle.command_rules.specs.Rosters.{Run, commands_of, is_on, is_run, run_no, touches, touches_from}
-use Rattle.device_order.specs.LineChanges.{Lacks}
-use Rattle.device_order.specs.LineWords.{RunsAreDistinct}
-use Rattle.history_book.proofs.Cited.{IsShaped, aborted, put_other, put_same, some_is}
-use Rattle.history_book.specs.Histories.{entry, with_placed}
-use Rattle.history_book.specs.Lines.{split_at}
-use Rattle.history_book.specs.Plans.{planned_end, planned_start}
-use Rattle.history_book.specs.Readings.{OfRun, PlacedAt, Planned, Reading, did, is_committing, is_doomed, nothing_read, put, view_of}
-use Rattle.history_book.specs.Settings.{Setting, is_device}
-use Rattle.history_book.specs.WellFormed.{may_follow}
-use Rattle.history_book.specs.declared.entries.Entry.TheVariants.{Arrived, Placed}
-use Rattle.home_types.specs.HomeStates.{stand_at}
-use Rattle.home_types.specs.declared.commands.View.TheVariants.{Down}
-use Rattle.home_types.specs.declared.items.Item.TheVariants.{Ran}
-use Rattle.home_types.specs.declared.items.Item.{Item}
-use Rattle.lineage_table.specs.Accesses.{has_access, is_acquired, put_access_before, some_acquired}
-use Rattle.lineage_table.specs.Lineages.{LineageState, TableIsOpened, lineage_at, runs_on, scheduled}
-use Rattle.lineage_table.specs.declared.accesses.Access.{Access}
-use Rattle.lineage_table.specs.declared.accesses.Status.TheVariants.{Acquired, Released, Scheduled}
-use Rattle.lock_leasing.specs.Configurations.{Grips, grips_command, grips_undo, point}
-use Rattle.lock_leasing.specs.Order.{committed_value}
-use Rattle.lock_leasing.specs.Places.{IsClear}
-use Rattle.lock_leasing.specs.Tables.{is_at_work, may_be_passed, status_by_answers, uses, view_when}
-use Rattle.lock_leasing.specs.Words.{committed_write, is_undone}
-use Rattle.std.proofs.Common.{ap, arith, cond, refl, subst, sym, ◌∙◌}
-use Rattle.std.proofs.lemmas.Grind.{common_steps}
-use Rattle.std.proofs.lemmas.List.Sums.{fold-append, sum_by-cons}
-use Rattle.std.proofs.lemmas.List.{take-append-drop}
-use Rattle.std.specs.List.{list_any}
-use Rattle.std.specs.Option.{option_or}
-use Rattle.std.specs.Prelude.{Bool, List, None, Option, Some, [], count_by, drop, false, fold, if◌then◌else◌, is_none, is_some, length, not, option_map, slice_get, suc, take, true, unwrap_or, zero, ℕ, ◌&&◌, ◌++◌, ◌+◌, ◌<◌, ◌||◌, ◌∷◌, ◌≡◌, ◌≢◌}
+use Rattle.window_order.proofs.Prelude.{Access, Acquired, Arrived, Bool, Down, Grips, IsClear, IsNewOn, IsShaped, Item, Lacks, LineageIsKept, LineageState, List, None, OfRun, Option, Placed, PlacedAt, Planned, Ran, Reading, Released, Run, RunsAreDistinct, Scheduled, Setting, Some, TableIsKept, TableIsOpened, [], aborted, access_read, accesses_along, accesses_from, accesses_read, ap, arith, commands_of, commits_write, committed_value, committed_write, common_steps, cond, count_by, did, drop, entry, false, first_with_access, fold, fold-append, grips_command, grips_undo, has_access, if◌then◌else◌, is_acquired, is_at_work, is_committing, is_device, is_doomed, is_none, is_on, is_ran, is_run, is_some, is_undone, length, lineage_at, list_any, may_be_passed, may_follow, not, nothing_read, of_run, option_map, option_or, placed_change, planned_end, planned_start, point, put, put_access_before, put_other, put_same, refl, rescheduled, run_no, runs_on, scheduled, slice_get, some_acquired, some_is, split_at, stand_at, status_by_answers, subst, suc, sum_by-cons, sym, take, take-append-drop, touches, touches_from, true, unplaced_among, unplaced_on, unwrap_or, uses, view_of, view_when, waiting_access, waits_again, with_again, with_placed, zero, ℕ, ◌&&◌, ◌++◌, ◌+◌, ◌<◌, ◌||◌, ◌∙◌, ◌∷◌, ◌≡◌, ◌≢◌}
 use Rattle.window_order.proofs.AccessLists.{SameBut, along_absent, along_but, along_lacks, along_parts, along_there, any_but, distinct_parts, from_between, front_accesses, front_but, front_in, front_lacks, lacks_none, put_between}
 use Rattle.window_order.proofs.ClearLines.{clear_run, clear_written}
 use Rattle.window_order.proofs.ReadFacts.{IsRead, lacks_count, runs_distinct}
 use Rattle.window_order.proofs.Runs.{lacks_parts}
 use Rattle.window_order.proofs.TableFrames.{access_by, commits_by, lineage_same, may_by, put_says, same_committed, uses_by, write_by}
-use Rattle.window_order.specs.TableChanges.{IsNewOn, accesses_from, first_with_access, placed_change, rescheduled, waiting_access, waits_again, with_again}
-use Rattle.window_order.specs.TableKept.{LineageIsKept, TableIsKept, access_read, accesses_along, accesses_read, commits_write, unplaced_among, unplaced_on}
 
 -- The start
 

@@ -1,33 +1,6 @@
 -- A probe keeps the order of a window, whether it works or dies, and an undo that dies.
-use Rattle.command_rules.specs.Items.{is_ran}
-use Rattle.command_rules.specs.Rosters.{device_no, run_no, touches}
-use Rattle.device_order.proofs.Cited.{device_restarted, probe_died, probe_died_under_run, probe_found_down, probe_found_up, probe_out, undo_died}
-use Rattle.device_order.specs.LineEntries.{usage}
-use Rattle.device_order.specs.LineWords.{CutAt, any_run, at_device, standing_value_on}
-use Rattle.device_order.specs.Usages.{spans_up}
-use Rattle.device_order.specs.WindowSteps.{KeepsRuns}
-use Rattle.device_order.specs.declared.records.HeldGrip.TheVariants.{Free}
+use Rattle.window_order.proofs.Prelude.{Back, Bool, Cause, CutAt, Doomed, Failed, Fell, Free, Grip, Grips, GripsFit, Item, KeepsRuns, List, None, OfRun, Option, OrderIsKept, Probes, Ran, Reading, Rose, Setting, Some, Undid, Undoes, [], and_parts, any_run, ap, arith, at_device, common_steps, device_no, device_restarted, effective_write, entry, eq-eqb, false, has_written, held_by, if◌then◌else◌, is_device, is_doomed, is_in_line, is_live, is_open, is_out, is_ran, is_some, is_weak, list_any, lost_by, not, option_map, or_left, or_right, pends, point, probe_died, probe_died_under_run, probe_for_purpose, probe_found_down, probe_found_up, probe_of, probe_out, put, put_keeps, put_other, put_same, refl, run_no, run_state, sees_up, spans_up, stand_at, standing_value, standing_value_on, suc, sym, touches, true, undo_died, unwrap_or, usage, window_of, ℕ, ◌&&◌, ◌+◌, ◌==◌, ◌||◌, ◌∙◌, ◌∷◌, ◌≡◌, ◌≢◌}
 use Rattle.device_order.specs.declared.records.Probe.TheVariants.{Asks, Restores}
-use Rattle.history_book.proofs.Cited.{put_keeps, put_other, put_same}
-use Rattle.history_book.specs.Histories.{entry}
-use Rattle.history_book.specs.Readings.{OfRun, Reading, has_written, is_doomed, is_live, is_open, pends, put, sees_up}
-use Rattle.history_book.specs.Settings.{Setting, is_device, is_weak}
-use Rattle.history_book.specs.declared.entries.Cause.{Cause}
-use Rattle.history_book.specs.declared.entries.Entry.TheVariants.{Doomed, Fell, Rose, Undid}
-use Rattle.home_types.specs.HomeStates.{stand_at}
-use Rattle.home_types.specs.declared.items.Item.TheVariants.{Back, Failed, Ran}
-use Rattle.home_types.specs.declared.items.Item.{Item}
-use Rattle.lock_leasing.specs.Configurations.{Grip, Grips, is_out, point}
-use Rattle.lock_leasing.specs.declared.purposes.Purpose.TheVariants.{Probes, Undoes}
-use Rattle.lock_leasing.specs.Order.{is_in_line}
-use Rattle.lock_leasing.specs.Places.{GripsFit}
-use Rattle.lock_leasing.specs.Waits.{lost_by}
-use Rattle.lock_leasing.specs.Words.{effective_write, standing_value}
-use Rattle.std.proofs.Common.{ap, arith, refl, sym, ◌∙◌}
-use Rattle.std.proofs.lemmas.Bool.{and_parts, eq-eqb, or_left, or_right}
-use Rattle.std.proofs.lemmas.Grind.{common_steps}
-use Rattle.std.specs.List.{list_any}
-use Rattle.std.specs.Prelude.{Bool, List, None, Option, Some, [], false, if◌then◌else◌, is_some, not, option_map, suc, true, unwrap_or, ℕ, ◌&&◌, ◌+◌, ◌==◌, ◌||◌, ◌∷◌, ◌≡◌, ◌≢◌}
 use Rattle.window_order.proofs.EventPlaces.{event_place, event_window, line_stands, spans_same}
 use Rattle.window_order.proofs.Firsts.{below_home}
 use Rattle.window_order.proofs.Goes.{none_hold}
@@ -39,8 +12,6 @@ use Rattle.window_order.proofs.Runs.{cut_live, live_run, live_uncommitted, state
 use Rattle.window_order.proofs.StandingValues.{live_stands, standing_on_line}
 use Rattle.window_order.proofs.Steps.{home_fits}
 use Rattle.window_order.proofs.TurnedOrders.{Turns, none_lost, one_lost, out_spans_none, restored_spans_none, turned_history, undone_spans_none}
-use Rattle.window_order.specs.OrderKept.{OrderIsKept}
-use Rattle.window_order.specs.ReadWindows.{held_by, probe_for_purpose, probe_of, run_state, window_of}
 
 -- A device out for a probe is no run's
 

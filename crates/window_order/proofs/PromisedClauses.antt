@@ -1,32 +1,8 @@
 -- The promises on live writes and open runs, along the line.
-use Rattle.command_rules.specs.Rosters.{commands_of, is_on, run_no, touches}
-use Rattle.device_order.proofs.Cited.{read_covered, untouched_after}
-use Rattle.device_order.specs.LineEntries.{usage}
-use Rattle.device_order.specs.RunStates.{remaining, uses_device}
-use Rattle.device_order.specs.Summaries.{AreHomed}
-use Rattle.device_order.specs.Usages.{has_used_device}
-use Rattle.device_order.specs.Windows.{HasLiveWriteAt, IsCovered, IsPendingAt}
-use Rattle.history_book.proofs.Cited.{did_touches}
-use Rattle.history_book.specs.Readings.{Reading, did, has_written, is_committed, is_doomed, is_live, next_of, pends}
-use Rattle.history_book.specs.Settings.{Setting}
-use Rattle.home_types.specs.declared.commands.Answer.{Answer}
-use Rattle.home_types.specs.declared.commands.Command.{Command}
-use Rattle.home_types.specs.declared.items.Item.TheVariants.{Back, Failed, Ran}
-use Rattle.home_types.specs.declared.items.Item.{Item}
-use Rattle.lock_leasing.specs.Configurations.{Grips, grips_command, grips_undo, point}
-use Rattle.lock_leasing.specs.Order.{covers, has_live_write, has_read_first, is_covered, is_touched, live_writes_are_covered, open_runs_are_last, opens}
-use Rattle.lock_leasing.specs.Words.{has_touched, is_undone}
-use Rattle.std.proofs.Common.{ap, ap₂, append_assoc, arith, refl, sym, ◌∙◌}
-use Rattle.std.proofs.lemmas.Bool.{both_ways, not-true, or_right}
-use Rattle.std.proofs.lemmas.Grind.{common_steps}
-use Rattle.std.proofs.lemmas.List.Folds.{list_any-append}
-use Rattle.std.specs.List.{list_any}
-use Rattle.std.specs.Prelude.{Bool, List, Option, Some, None, [], drop, false, is_some, length, not, option_map, suc, true, zero, ℕ, ◌&&◌, ◌++◌, ◌<◌, ◌||◌, ◌∷◌, ◌≡◌}
+use Rattle.window_order.proofs.Prelude.{Answer, AreHomed, Back, Bool, Command, Failed, Grips, HasLiveWriteAt, IsCovered, IsPendingAt, Item, List, None, Option, OrderIsKept, Ran, Reading, Setting, Some, [], ap, append_assoc, ap₂, arith, both_ways, commands_of, common_steps, covers, did, did_touches, drop, false, grips_command, grips_undo, has_live_write, has_read_first, has_touched, has_used_device, has_written, is_committed, is_covered, is_doomed, is_live, is_on, is_some, is_touched, is_undone, length, list_any, list_any-append, live_writes_are_covered, next_of, not, not-true, open_runs_are_last, opens, option_map, or_right, pends, point, read_covered, refl, remaining, run_no, run_state, suc, sym, touches, true, untouched_after, usage, uses_device, window_of, zero, ℕ, ◌&&◌, ◌++◌, ◌<◌, ◌||◌, ◌∙◌, ◌∷◌, ◌≡◌}
 use Rattle.window_order.proofs.PromisedWords.{command_held, written_touches}
 use Rattle.window_order.proofs.ReadFacts.{IsRead, view_from}
 use Rattle.window_order.proofs.StandingValues.{acts_on}
-use Rattle.window_order.specs.OrderKept.{OrderIsKept}
-use Rattle.window_order.specs.ReadWindows.{run_state, window_of}
 
 record Parts (x y z : Bool) : Type 0 where
   first : x ≡ true

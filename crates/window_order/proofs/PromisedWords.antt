@@ -1,28 +1,6 @@
 -- Words of the reading and of the grips that are out, as the window that they make has them.
-use Rattle.command_rules.specs.Rosters.{touches}
-use Rattle.device_order.specs.LineEntries.{entries, entry_if, usage, with_order_entry}
-use Rattle.device_order.specs.RunStates.{RunStates, uses_device}
-use Rattle.device_order.specs.Usages.{holds_command, holds_undo, is_in_effect}
-use Rattle.device_order.specs.Walks.{has}
-use Rattle.device_order.specs.declared.records.Event.TheVariants.{Failure, Restart}
-use Rattle.device_order.specs.declared.records.HeldGrip.TheVariants.{Free, Reads, Writes}
-use Rattle.device_order.specs.declared.records.OrderEntry.TheVariants.{Occurred, Used}
-use Rattle.device_order.specs.declared.records.Usage.{Usage}
-use Rattle.history_book.proofs.Cited.{did_touches}
-use Rattle.history_book.specs.Readings.{Reading, has_written}
-use Rattle.history_book.specs.Settings.{Setting, is_device}
-use Rattle.home_types.specs.declared.items.Item.TheVariants.{Back, Failed, Ran}
-use Rattle.home_types.specs.declared.items.Item.{Item}
-use Rattle.home_types.specs.declared.kinds.Kind.{Kind}
-use Rattle.lock_leasing.specs.Configurations.{Grip, Grips, grips_command, grips_undo, is_command, is_undo, point}
-use Rattle.lock_leasing.specs.declared.purposes.Purpose.TheVariants.{Commands, Probes, Undoes}
-use Rattle.lock_leasing.specs.declared.purposes.Purpose.{Purpose}
-use Rattle.lock_leasing.specs.Words.{is_undone}
-use Rattle.std.proofs.Common.{ap, ap₂, arith, refl, ◌∙◌}
-use Rattle.std.proofs.lemmas.Grind.{common_steps}
-use Rattle.std.specs.Prelude.{Bool, List, None, Option, Some, [], false, if◌then◌else◌, is_some, length, not, option_map, true, unwrap_or, ℕ, ◌&&◌, ◌<◌, ◌==◌, ◌||◌, ◌∷◌, ◌≡◌}
+use Rattle.window_order.proofs.Prelude.{Back, Bool, Commands, Failed, Failure, Free, Grip, Grips, Item, Kind, List, None, Occurred, Option, Probes, Purpose, Ran, Reading, Reads, Restart, RunStates, Setting, Some, Undoes, Usage, Used, Writes, [], ap, ap₂, arith, common_steps, did_touches, entries, entry_if, false, grips_command, grips_undo, has, has_written, held_by, held_for, holds_command, holds_undo, if◌then◌else◌, is_command, is_device, is_in_effect, is_some, is_undo, is_undone, length, not, option_map, point, refl, run_state, touches, true, unwrap_or, usage, uses_device, with_order_entry, ℕ, ◌&&◌, ◌<◌, ◌==◌, ◌||◌, ◌∙◌, ◌∷◌, ◌≡◌}
 use Rattle.window_order.proofs.ReadFacts.{IsRead}
-use Rattle.window_order.specs.ReadWindows.{held_by, held_for, run_state}
 
 pub device_below : (w : Setting) (d : ℕ) → is_device w d ≡ true → d < length w.first
 device_below w d h = grind (arith, common_steps)

@@ -1,15 +1,8 @@
 -- The serial order invariant: the four promised clauses of a window whose order is kept.
-use Rattle.history_book.specs.Readings.{Reading}
-use Rattle.history_book.specs.Settings.{Setting}
-use Rattle.lock_leasing.specs.Configurations.{Grips, point}
-use Rattle.lock_leasing.specs.Order.{OrderStands, live_writes_are_covered, open_runs_are_last}
-use Rattle.std.proofs.Common.{arith}
-use Rattle.std.proofs.lemmas.Grind.{common_steps}
-use Rattle.std.specs.Prelude.{Bool, IsTrue, true, ℕ, ◌≡◌}
+use Rattle.window_order.proofs.Prelude.{Bool, Grips, IsTrue, OrderIsKept, OrderStands, Reading, Setting, arith, common_steps, live_writes_are_covered, open_runs_are_last, point, true, ℕ, ◌≡◌}
 use Rattle.window_order.proofs.PromisedClauses.{live_writes_covered, open_runs_last}
 use Rattle.window_order.proofs.ReadFacts.{IsRead}
 use Rattle.window_order.proofs.SettledOrders.{settled_agree}
-use Rattle.window_order.specs.OrderKept.{OrderIsKept}
 
 test_holds : (b : Bool) → b ≡ true → IsTrue b
 test_holds b e = grind (arith, common_steps)

@@ -1,34 +1,7 @@
 -- What the reading of a well-formed history says of each run and of the line, together.
-use Rattle.command_rules.specs.Items.{is_ran}
-use Rattle.command_rules.specs.Rosters.{command_at, commands_of, no_command}
-use Rattle.device_order.proofs.Cited.{pair_more, summary_more}
-use Rattle.device_order.specs.LineChanges.{Lacks}
-use Rattle.device_order.specs.LineWords.{RunsAreDistinct}
-use Rattle.device_order.specs.RunStates.{paired, remaining}
-use Rattle.device_order.specs.Summaries.{DeviceSummary, Summary, blank, device_summary_then, first_view, summary, summary_then}
-use Rattle.history_book.proofs.Cited.{Logged, Shaped, Standing, StandsOnce, logged, put_all, put_keeps, shapes, standing, stands_in, stands_once}
-use Rattle.history_book.specs.Histories.{answered, entry, reading}
-use Rattle.history_book.specs.Readings.{OfRun, OnDevice, Reading, nothing_read, put, unread}
-use Rattle.history_book.specs.Settings.{Setting}
-use Rattle.history_book.specs.WellFormed.{IsWellFormed, along, may_follow}
-use Rattle.history_book.specs.declared.entries.Entry.TheVariants.{Arrived, Did, Doomed, Ended, Fell, Placed, Rose, Undid}
-use Rattle.history_book.specs.declared.entries.Entry.{Entry}
-use Rattle.home_types.specs.Commands.{driven, register_after}
-use Rattle.home_types.specs.Kinds.{kind_at}
-use Rattle.home_types.specs.declared.commands.Answer.TheVariants.{Down, Fine, Found, Skipped}
-use Rattle.home_types.specs.declared.commands.Answer.{Answer}
-use Rattle.home_types.specs.declared.commands.Command.{Command}
-use Rattle.home_types.specs.declared.commands.View.TheVariants.{Down as SeenDown, Up}
-use Rattle.home_types.specs.declared.commands.View.{View}
-use Rattle.home_types.specs.declared.items.Item.TheVariants.{Back, Failed, Ran}
-use Rattle.home_types.specs.declared.items.Item.{Item}
-use Rattle.home_types.specs.declared.kinds.Kind.{Kind}
-use Rattle.std.proofs.Common.{ap, arith, cond, refl, subst, sym, ◌∙◌}
-use Rattle.std.proofs.lemmas.Grind.{common_steps}
-use Rattle.std.proofs.lemmas.List.{drop_more}
-use Rattle.std.proofs.lemmas.List.Sums.{sum_by-cons}
-use Rattle.std.specs.Option.{option_or}
-use Rattle.std.specs.Prelude.{Bool, IsTrue, List, None, Option, Some, [], count_by, drop, false, fold, if◌then◌else◌, is_some, length, option_map, slice_index_or, true, ℕ, ◌++◌, ◌+◌, ◌<◌, ◌==◌, ◌||◌, ◌≡◌, ◌≤◌, ◌∷◌}
+use Rattle.window_order.proofs.Prelude.{Answer, Arrived, Back, Bool, Command, DeviceSummary, Did, Doomed, Ended, Entry, Failed, Fell, Fine, Found, IsTrue, IsWellFormed, Item, Kind, Lacks, List, Logged, None, OfRun, OnDevice, Option, Placed, Ran, Reading, Rose, RunsAreDistinct, Setting, Shaped, Skipped, Some, Standing, StandsOnce, Summary, Undid, Up, View, [], along, answered, ap, arith, blank, command_at, commands_of, common_steps, cond, count_by, device_summary_then, driven, drop, drop_more, entry, false, first_view, fold, if◌then◌else◌, is_ran, is_some, kind_at, length, logged, may_follow, no_command, nothing_read, option_map, option_or, pair_more, paired, put, put_all, put_keeps, reading, refl, register_after, remaining, shapes, slice_index_or, standing, stands_in, stands_once, subst, sum_by-cons, summary, summary_more, summary_then, sym, true, unread, ℕ, ◌++◌, ◌+◌, ◌<◌, ◌==◌, ◌||◌, ◌∙◌, ◌∷◌, ◌≡◌, ◌≤◌}
+use Rattle.home_types.specs.declared.commands.Answer.TheVariants.{Down}
+use Rattle.home_types.specs.declared.commands.View.TheVariants.{Down as SeenDown}
 use Rattle.window_order.proofs.ClosedSpans.{SpansClose, closed_spans}
 use Rattle.window_order.proofs.NumberedEvents.{EventsAreNumbered, events_numbered}
 

@@ -1,37 +1,9 @@
 -- A line whose items stand in another order, each device's own ones in theirs, keeps the order of a window, its table and what its reading says.
-use Rattle.command_rules.specs.Items.{is_ran, of_run}
-use Rattle.command_rules.specs.Rosters.{run_no, touches}
-use Rattle.device_order.specs.LineEntries.{entries, entry_if, entry_of, usage, with_order_entry}
+use Rattle.window_order.proofs.Prelude.{Access, Back, Bool, DeviceInvariant, Failed, Failure, Grips, IsTrue, Item, LineageIsKept, LineageState, List, None, Occurred, Option, OrderEntry, OrderIsKept, Ran, Reading, Restart, Setting, Some, TableIsKept, Used, [], access_read, accesses_along, accesses_read, ap, arith, commits_write, committed_write, common_steps, cond, count_by, did, did_touches, entries, entry_if, entry_of, false, filter, filter_map, firsts_of_line, if◌then◌else◌, in_order, is_committed, is_doomed, is_item_on, is_late, is_live, is_ran, is_some, last_filter, last_some, length, lineage_at, list_any, marks_of_line, nat_lt, not, of_run, part, passed_by, point, probe_of, refl, run_no, run_state, sees_up, stand_at, subst, sym, touches, true, unwrap_or, usage, uses, window_of, with_order_entry, ℕ, ◌&&◌, ◌<◌, ◌==◌, ◌||◌, ◌∙◌, ◌∷◌, ◌≡◌}
 use Rattle.device_order.specs.LineOrders.{EventsAreHomed}
-use Rattle.device_order.specs.Invariant.{DeviceInvariant}
-use Rattle.device_order.specs.declared.records.Event.TheVariants.{Failure, Restart}
-use Rattle.device_order.specs.declared.records.OrderEntry.TheVariants.{Occurred, Used}
-use Rattle.device_order.specs.declared.records.OrderEntry.{OrderEntry}
-use Rattle.history_book.proofs.Cited.{did_touches, part}
-use Rattle.history_book.specs.Lines.{is_item_on}
-use Rattle.history_book.specs.Readings.{Reading, did, is_committed, is_doomed, is_live, passed_by, sees_up}
-use Rattle.history_book.specs.Settings.{Setting}
-use Rattle.home_types.specs.HomeStates.{stand_at}
-use Rattle.home_types.specs.declared.items.Item.TheVariants.{Back, Failed, Ran}
-use Rattle.home_types.specs.declared.items.Item.{Item}
-use Rattle.lineage_table.specs.declared.accesses.Access.{Access}
-use Rattle.lineage_table.specs.Lineages.{LineageState, lineage_at}
-use Rattle.lock_leasing.specs.Configurations.{Grips, point}
-use Rattle.lock_leasing.specs.Order.{firsts_of_line, is_late, marks_of_line}
-use Rattle.lock_leasing.specs.Words.{committed_write, last_some}
-use Rattle.lock_leasing.specs.Places.{in_order}
-use Rattle.lock_leasing.proofs.Cited.{last_filter}
-use Rattle.std.proofs.Common.{ap, arith, cond, refl, subst, sym, ◌∙◌}
-use Rattle.std.proofs.lemmas.Grind.{common_steps}
-use Rattle.std.specs.List.{list_any}
-use Rattle.std.specs.Prelude.{Bool, IsTrue, List, None, Option, Some, [], count_by, false, filter, filter_map, if◌then◌else◌, is_some, length, nat_lt, not, true, unwrap_or, ℕ, ◌&&◌, ◌<◌, ◌==◌, ◌||◌, ◌∷◌, ◌≡◌}
 use Rattle.window_order.proofs.ReadFacts.{IsRead}
-use Rattle.window_order.specs.OrderKept.{OrderIsKept}
 use Rattle.window_order.proofs.Grips.{fits_same}
 use Rattle.window_order.proofs.HistoryOrder.{if_kept, is_marked, kept_items, same_items, same_marks}
-use Rattle.window_order.specs.ReadWindows.{probe_of, run_state, window_of}
-use Rattle.window_order.specs.TableKept.{LineageIsKept, TableIsKept, access_read, accesses_along, accesses_read, commits_write}
-use Rattle.lock_leasing.specs.Tables.{uses}
 
 -- the same items stand in both lines, and those of each device in the same order
 pub record HasSameParts (w : Setting) (line next : List Item) : Type 0 where

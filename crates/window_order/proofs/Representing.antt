@@ -1,32 +1,7 @@
 -- A lineage table that is kept so, each lineage of which is disciplined, represents the configuration of its window.
-use Rattle.command_rules.specs.Rosters.{commands_of, is_on}
-use Rattle.history_book.proofs.Cited.{asks_next}
-use Rattle.history_book.specs.Readings.{Reading, asks_on, did, is_doomed, is_live, next_of, pends, view_of}
-use Rattle.history_book.specs.Settings.{Setting}
-use Rattle.home_types.specs.declared.commands.Command.{Command}
-use Rattle.home_types.specs.declared.commands.View.TheVariants.{Down}
-use Rattle.home_types.specs.declared.items.Item.TheVariants.{Back, Failed, Ran}
-use Rattle.home_types.specs.declared.items.Item.{Item}
-use Rattle.lineage_table.proofs.Cited.{Pairs, pairs_from_all}
-use Rattle.lineage_table.specs.Accesses.{AreInTurn, IsDisciplined, is_acquired, is_released, is_scheduled}
-use Rattle.lineage_table.specs.Lineages.{LineageState, accesses_at}
-use Rattle.lineage_table.specs.declared.accesses.Access.{Access}
-use Rattle.lineage_table.specs.declared.accesses.Status.TheVariants.{Acquired, Released, Scheduled}
-use Rattle.lineage_table.specs.declared.accesses.Status.{Status}
-use Rattle.lock_leasing.specs.Configurations.{Grip, Grips, grips_command, is_command, point}
-use Rattle.lock_leasing.specs.declared.purposes.Purpose.TheVariants.{Commands, Probes, Undoes}
-use Rattle.lock_leasing.specs.declared.purposes.Purpose.{Purpose}
-use Rattle.lock_leasing.specs.Order.{covers}
-use Rattle.lock_leasing.specs.Places.{GripsFit}
-use Rattle.lock_leasing.specs.Tables.{EachTellsOfRun, Represents, TellsOfRun, may_be_passed, runs_with_access, some_in_use, status_by_answers, uses, view_when}
-use Rattle.lock_leasing.specs.Words.{has_touched}
-use Rattle.std.proofs.Common.{ap, arith, refl, subst, sym, ◌∙◌}
-use Rattle.std.proofs.lemmas.Bool.{both_ways, eqb-true}
-use Rattle.std.proofs.lemmas.Grind.{common_steps}
-use Rattle.std.specs.List.{AllByRecursion, list_any}
-use Rattle.std.specs.Prelude.{Bool, List, None, Option, Some, [], drop, false, if◌then◌else◌, map, not, option_map, slice_get, suc, true, unwrap_or, zero, ℕ, ◌&&◌, ◌==◌, ◌||◌, ◌∷◌, ◌≡◌}
+use Rattle.window_order.proofs.Prelude.{Access, Acquired, AllByRecursion, AreInTurn, Back, Bool, Command, Commands, Down, EachTellsOfRun, Failed, Grip, Grips, GripsFit, IsDisciplined, Item, LineageState, List, None, Option, Probes, Purpose, Ran, Reading, Released, Represents, Scheduled, Setting, Some, Status, TableIsKept, TellsOfRun, Undoes, [], access_read, accesses_at, accesses_read, ap, arith, asks_next, asks_on, both_ways, commands_of, common_steps, covers, did, drop, eqb-true, false, grips_command, has_touched, if◌then◌else◌, is_acquired, is_command, is_doomed, is_live, is_on, is_released, is_scheduled, list_any, map, may_be_passed, next_of, not, option_map, pairs_from_all, pends, point, refl, runs_with_access, slice_get, some_in_use, status_by_answers, subst, suc, sym, true, unwrap_or, uses, view_of, view_when, zero, ℕ, ◌&&◌, ◌==◌, ◌||◌, ◌∙◌, ◌∷◌, ◌≡◌}
+use Rattle.lineage_table.proofs.Cited.{Pairs}
 use Rattle.window_order.proofs.Runs.{both, three}
-use Rattle.window_order.specs.TableKept.{TableIsKept, access_read, accesses_read}
 
 next_left : (d : ℕ) (cs : List Command) (k : ℕ) → unwrap_or (option_map (is_on d) (slice_get cs k)) false ≡ true → list_any (is_on d) (drop k cs) ≡ true
 next_left d [] zero h = h

@@ -1,39 +1,7 @@
 -- Each kind of change of a doomed run keeps the order of a window: it is doomed, undone device by device, and leaves.
-use Rattle.command_rules.specs.Rosters.{command_at, commands_of, device_no, run_no, touches}
-use Rattle.device_order.proofs.Cited.{read_answered, run_doomed, run_leaves_line, undo_answered, undo_dropped, undo_out}
-use Rattle.device_order.specs.LineChanges.{Lacks}
-use Rattle.device_order.specs.LineWords.{CutAt, last_in_effect, standing_value_on}
-use Rattle.device_order.specs.WindowSteps.{GetsAnswer, KeepsElsewhere, MayUndo}
-use Rattle.device_order.specs.declared.records.HeldGrip.TheVariants.{Reads, Undoes as HeldToUndo, Writes}
-use Rattle.history_book.proofs.Cited.{each_found, own_devices, put_keeps, put_other, put_same}
-use Rattle.history_book.specs.Histories.{entry}
-use Rattle.history_book.specs.Lines.{without}
-use Rattle.history_book.specs.Readings.{OfRun, OnDevice, Reading, has_written, is_doomed, is_live, next_of, put}
-use Rattle.history_book.specs.Settings.{Setting, device_numbers, devices_of, is_device}
-use Rattle.history_book.specs.WellFormed.{is_cause_of, may_follow, same_cause}
+use Rattle.window_order.proofs.Prelude.{Aborted, Answer, Back, Bool, Cause, Command, Commands, CutAt, Did, Doomed, Ended, Failed, Found, GetsAnswer, Grip, Grips, GripsFit, InHistoryOrder, Item, KeepsElsewhere, Lacks, List, MayUndo, None, OfRun, OnDevice, Option, OrderIsKept, Probes, Purpose, Ran, Reading, Reads, Setting, Some, Undid, Undoes, Writes, [], ap, arith, command_at, commands_of, common_steps, cond, device_no, device_numbers, devices_of, drop, each_found, effect_is, effective_writer_of, entry, eq-eqb, eqb-true, false, filter, find, grip_wait, has_effect, has_written, held_by, holds, if◌then◌else◌, is_cause_of, is_device, is_doomed, is_live, is_out, is_some, last_in_effect, last_some, length, may_follow, ne_eqb, next_of, next_undo_of, not, option_map, or_parts, own_devices, point, probe_of, put, put_keeps, put_other, put_same, read_answered, reads, refl, run_doomed, run_leaves_line, run_no, run_state, same_cause, stand_at, standing_value_on, subst, sym, touches, true, undo_answered, undo_dropped, undo_out, unwrap_or, value_without, window_of, without, write_of, ℕ, ◌&&◌, ◌++◌, ◌+◌, ◌<◌, ◌==◌, ◌||◌, ◌∙◌, ◌∷◌, ◌≡◌, ◌≢◌}
+use Rattle.device_order.specs.declared.records.HeldGrip.TheVariants.{Undoes as HeldToUndo}
 use Rattle.history_book.specs.declared.entries.Cause.TheVariants.{Refuted}
-use Rattle.history_book.specs.declared.entries.Cause.{Cause}
-use Rattle.history_book.specs.declared.entries.End.TheVariants.{Aborted}
-use Rattle.history_book.specs.declared.entries.Entry.TheVariants.{Did, Doomed, Ended, Undid}
-use Rattle.home_types.specs.Commands.{holds, reads}
-use Rattle.home_types.specs.HomeStates.{stand_at}
-use Rattle.home_types.specs.declared.commands.Answer.TheVariants.{Found}
-use Rattle.home_types.specs.declared.commands.Answer.{Answer}
-use Rattle.home_types.specs.declared.commands.Command.{Command}
-use Rattle.home_types.specs.declared.items.Item.TheVariants.{Back, Failed, Ran}
-use Rattle.home_types.specs.declared.items.Item.{Item}
-use Rattle.lock_leasing.proofs.Cited.{effect_is}
-use Rattle.lock_leasing.specs.Configurations.{Grip, Grips, is_out, point}
-use Rattle.lock_leasing.specs.declared.purposes.Purpose.TheVariants.{Commands, Probes, Undoes}
-use Rattle.lock_leasing.specs.declared.purposes.Purpose.{Purpose}
-use Rattle.lock_leasing.specs.Order.{InHistoryOrder}
-use Rattle.lock_leasing.specs.Places.{GripsFit}
-use Rattle.lock_leasing.specs.Waits.{grip_wait}
-use Rattle.lock_leasing.specs.Words.{effective_writer_of, has_effect, last_some, next_undo_of, value_without, write_of}
-use Rattle.std.proofs.Common.{ap, arith, cond, refl, subst, sym, ◌∙◌}
-use Rattle.std.proofs.lemmas.Bool.{eq-eqb, eqb-true, ne_eqb, or_parts}
-use Rattle.std.proofs.lemmas.Grind.{common_steps}
-use Rattle.std.specs.Prelude.{Bool, List, None, Option, Some, [], drop, false, filter, find, if◌then◌else◌, is_some, length, not, option_map, true, unwrap_or, ℕ, ◌&&◌, ◌++◌, ◌+◌, ◌<◌, ◌==◌, ◌||◌, ◌∷◌, ◌≡◌, ◌≢◌}
 use Rattle.window_order.proofs.Firsts.{did_history}
 use Rattle.window_order.proofs.Goes.{none_hold}
 use Rattle.window_order.proofs.Grips.{HoldsNone, MayGrip, all_may, fits_from, fits_other, fits_with, held_none, held_other, held_own, holds_none, in_place, may_command, may_undo, none_in}
@@ -43,8 +11,6 @@ use Rattle.window_order.proofs.ReadFacts.{IsRead}
 use Rattle.window_order.proofs.Runs.{cut_live, live_run, live_uncommitted, state_by, uses_homed}
 use Rattle.window_order.proofs.StandingValues.{standing_on_line, writer_on_line}
 use Rattle.window_order.proofs.Steps.{IsOut, gets_answer, home_fits, out_is, out_newest}
-use Rattle.window_order.specs.OrderKept.{OrderIsKept}
-use Rattle.window_order.specs.ReadWindows.{held_by, probe_of, run_state, window_of}
 
 -- A run is doomed
 

@@ -1,26 +1,6 @@
 -- What the reading says of the runs of the line.
-use Rattle.command_rules.specs.Items.{is_ran}
-use Rattle.command_rules.specs.Rosters.{commands_of, is_on, is_run}
-use Rattle.device_order.proofs.Cited.{cut_at}
-use Rattle.device_order.specs.LineChanges.{Lacks}
-use Rattle.device_order.specs.LineWords.{CutAt, any_run}
-use Rattle.device_order.specs.RunStates.{RunState}
-use Rattle.device_order.specs.Summaries.{AreHomed}
-use Rattle.history_book.proofs.Cited.{count_append, is_abort}
-use Rattle.history_book.specs.Readings.{OfRun, Reading, is_committed, is_committing, is_live}
-use Rattle.history_book.specs.Settings.{Setting}
-use Rattle.history_book.specs.declared.entries.End.{End}
-use Rattle.home_types.specs.declared.commands.Command.{Command}
-use Rattle.home_types.specs.declared.items.Item.TheVariants.{Back, Failed, Ran}
-use Rattle.home_types.specs.declared.items.Item.{Item}
-use Rattle.lock_leasing.specs.Configurations.{Grips}
-use Rattle.std.proofs.Common.{ap, arith, refl, subst, ◌∙◌}
-use Rattle.std.proofs.lemmas.Bool.{eqb-true}
-use Rattle.std.proofs.lemmas.Grind.{common_steps}
-use Rattle.std.specs.List.{list_any}
-use Rattle.std.specs.Prelude.{Bool, List, None, Option, Some, [], count_by, false, is_none, is_some, not, option_map, suc, true, unwrap_or, zero, ℕ, ◌&&◌, ◌++◌, ◌+◌, ◌<◌, ◌==◌, ◌||◌, ◌∷◌, ◌≡◌}
+use Rattle.window_order.proofs.Prelude.{AreHomed, Back, Bool, Command, CutAt, End, Failed, Grips, Item, Lacks, List, None, OfRun, Option, Ran, Reading, RunState, Setting, Some, [], any_run, ap, arith, commands_of, common_steps, count_append, count_by, cut_at, eqb-true, false, held_by, is_abort, is_committed, is_committing, is_live, is_none, is_on, is_ran, is_run, is_some, list_any, not, option_map, refl, subst, suc, true, unwrap_or, zero, ℕ, ◌&&◌, ◌++◌, ◌+◌, ◌<◌, ◌==◌, ◌||◌, ◌∙◌, ◌∷◌, ◌≡◌}
 use Rattle.window_order.proofs.ReadFacts.{IsRead, lacks_count, runs_distinct}
-use Rattle.window_order.specs.ReadWindows.{held_by}
 
 -- a run of the window has no number 0
 pub run_positive : (w : Setting) (r : ℕ) → is_run w.runs r ≡ true → (p : ℕ) × (r ≡ suc p)

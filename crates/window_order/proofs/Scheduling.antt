@@ -1,34 +1,16 @@
 -- The accesses of a run that is placed, command after command.
-use Rattle.command_rules.specs.Rosters.{device_no, is_on, run_no}
-use Rattle.history_book.proofs.Cited.{among_more, differ, is_among}
+use Rattle.window_order.proofs.Prelude.{Access, Back, Bool, Command, Failed, ForSome, IsNewOn, Item, LineageState, List, None, Option, Ran, RunNo, Scheduled, Some, [], accesses_at, among_more, ap, arith, common_steps, device_no, differ, drop, drop_all, drop_more, eqb-true, false, first_with_access, get_or, get_or-set_other, get_or-set_same, has_access, if◌then◌else◌, is_among, is_on, is_some, length, length-set, lineage_at, list_any, list_any-append, nat_lt, no_lineage, option_or, option_to_list, or_left, refl, rescheduled, run_no, scheduled, slice_get, status_of, subst, sym, take, take-append-drop, true, with_lineage, ℕ, ◌+◌, ◌<◌, ◌==◌, ◌||◌, ◌∙◌, ◌∷◌, ◌≡◌, ◌≤◌}
 use Rattle.history_book.specs.declared.planned_uses.PlannedUse.{PlannedUse}
 use Rattle.home_types.proofs.Cited.{contains_insert}
 use Rattle.home_types.specs.DeviceSets.{Devices}
-use Rattle.home_types.specs.declared.commands.Command.{Command}
-use Rattle.home_types.specs.declared.items.Item.TheVariants.{Back, Failed, Ran}
-use Rattle.home_types.specs.declared.items.Item.{Item}
-use Rattle.home_types.specs.declared.numbers.RunNo.{RunNo}
-use Rattle.lineage_table.specs.Accesses.{has_access, status_of}
-use Rattle.lineage_table.specs.Lineages.{LineageState, accesses_at, lineage_at, no_lineage, scheduled, with_lineage}
-use Rattle.lineage_table.specs.declared.accesses.Access.{Access}
-use Rattle.lineage_table.specs.declared.accesses.Status.TheVariants.{Scheduled}
-use Rattle.std.proofs.Common.{ap, arith, refl, subst, sym, ◌∙◌}
 use Rattle.std.proofs.Math.Bool.{or-false, or-true}
-use Rattle.std.proofs.lemmas.Bool.{eqb-true, or_left}
-use Rattle.std.proofs.lemmas.Grind.{common_steps}
-use Rattle.std.proofs.lemmas.List.Folds.{list_any-append}
-use Rattle.std.proofs.lemmas.List.{drop_all, drop_more, get_or-set_other, get_or-set_same, length-set, take-append-drop}
 use Rattle.std.proofs.lemmas.Option.{same_Some, slice_get-get_or, slice_get_within}
 use Rattle.std.specs.FinSet as set
 use Rattle.std.specs.Ordering.{nat_cmp}
-use Rattle.std.specs.List.{list_any}
-use Rattle.std.specs.Option.{ForSome, option_or}
-use Rattle.std.specs.Prelude.{Bool, List, None, Option, Some, [], drop, false, get_or, if◌then◌else◌, is_some, length, nat_lt, option_to_list, slice_get, take, true, ℕ, ◌+◌, ◌<◌, ◌==◌, ◌||◌, ◌∷◌, ◌≡◌, ◌≤◌}
 use Rattle.window_order.proofs.AgainAccesses.{MayStand, may_stand}
 use Rattle.window_order.proofs.NotedAnswers.{lineage_set}
 use Rattle.window_order.proofs.TableSteps.{with_both}
 use Rattle.window_order.specs.OrderStates.{scheduled_so}
-use Rattle.window_order.specs.TableChanges.{IsNewOn, first_with_access, rescheduled}
 
 -- after so many commands their devices are done, and the run has its access there
 pub record IsScheduledTo (k : ℕ) (commands : List Command) (given : List (Option PlannedUse)) (r : ℕ) (back : List Item) (done : Devices) (old new : List LineageState) : Type 0 where

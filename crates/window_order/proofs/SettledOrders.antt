@@ -1,37 +1,10 @@
 -- The committed runs and the events of the line are a serial execution.
-use Rattle.command_rules.specs.Rosters.{touches}
-use Rattle.device_order.proofs.Cited.{order_serial}
-use Rattle.device_order.specs.LineEntries.{entries, entry_if, stage_of, usage, with_order_entry}
+use Rattle.window_order.proofs.Prelude.{Back, Bool, Failed, Failure, Grips, Item, List, None, Occurred, Option, OrderIsKept, OrderIsSerial, Ran, Reading, Restart, Setting, SettledAgree, Some, Usage, Used, WalkState, [], after_usage, answers_in, ap, arith, both_ways, committed_home, committed_value, committed_write, entries, entry_if, executed, ext_get_or, false, filter, fold, has_written, if_written, if◌then◌else◌, is_committed, is_doomed, is_settled, is_some, length, nowhere, option_or, order_serial, point, refl, rest, run_state, settled_items, stage_is_committed, stage_of, stand_at, sym, touches, true, unwrap_or, usage, uses_device, walk_end, walk_start, window_of, with_order_entry, ℕ, ◌&&◌, ◌<◌, ◌==◌, ◌∙◌, ◌∷◌, ◌≡◌}
 use Rattle.device_order.specs.LineOrders.{serial_order, served}
-use Rattle.device_order.specs.Records.{walk_start}
-use Rattle.device_order.specs.Usages.{stage_is_committed}
-use Rattle.device_order.specs.Walks.{after_usage, if_written, walk_end}
-use Rattle.device_order.specs.declared.walks.WalkState.{WalkState}
-use Rattle.device_order.specs.Windows.{OrderIsSerial}
-use Rattle.device_order.specs.declared.records.Event.TheVariants.{Failure, Restart}
-use Rattle.device_order.specs.declared.records.OrderEntry.TheVariants.{Occurred, Used}
-use Rattle.device_order.specs.declared.records.Usage.{Usage}
-use Rattle.device_order.specs.RunStates.{rest, uses_device}
-use Rattle.history_book.specs.Histories.{answers_in, executed}
-use Rattle.history_book.specs.Readings.{Reading, has_written, is_committed, is_doomed}
-use Rattle.history_book.specs.Settings.{Setting}
-use Rattle.home_types.specs.HomeStates.{nowhere, stand_at}
-use Rattle.home_types.specs.declared.items.Item.TheVariants.{Back, Failed, Ran}
-use Rattle.home_types.specs.declared.items.Item.{Item}
 use Rattle.home_types.specs.declared.worlds.Stand.{Stand}
-use Rattle.lock_leasing.specs.Configurations.{Grips, point}
-use Rattle.lock_leasing.specs.Order.{SettledAgree, committed_home, committed_value, is_settled, settled_items}
-use Rattle.lock_leasing.specs.Words.{committed_write}
-use Rattle.std.proofs.Common.{ap, arith, refl, sym, ◌∙◌}
-use Rattle.std.proofs.lemmas.Bool.{both_ways}
 use Rattle.std.proofs.lemmas.List.FromFn.{get_or-map-range_with_len, length-map-range_with_len}
-use Rattle.std.proofs.lemmas.List.{ext_get_or}
-use Rattle.std.specs.Option.{option_or}
-use Rattle.std.specs.Prelude.{Bool, List, None, Option, Some, [], false, filter, fold, if◌then◌else◌, is_some, length, true, unwrap_or, ℕ, ◌&&◌, ◌<◌, ◌==◌, ◌∷◌, ◌≡◌}
 use Rattle.window_order.proofs.PromisedWords.{written_touches}
 use Rattle.window_order.proofs.ReadFacts.{IsRead}
-use Rattle.window_order.specs.OrderKept.{OrderIsKept}
-use Rattle.window_order.specs.ReadWindows.{run_state, window_of}
 
 -- the settled items are the serial order of the line, ..
 settled_order : (w : Setting) (n : Reading) (g : Grips) (line : List Item) → filter (is_settled n) line ≡ serial_order (λ r. run_state (point w n g) r) line

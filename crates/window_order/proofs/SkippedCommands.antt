@@ -1,26 +1,5 @@
 -- A command is skipped by its guard. The order of the window is kept, and the line's marks.
-use Rattle.command_rules.specs.Rosters.{command_at, commands_of, run_no, touches_from}
-use Rattle.device_order.proofs.Cited.{skip_answered, two_places}
-use Rattle.device_order.specs.LineWords.{CutAt}
-use Rattle.device_order.specs.WindowSteps.{GetsAnswer}
-use Rattle.history_book.proofs.Cited.{put_keeps, put_other, put_same}
-use Rattle.history_book.specs.Histories.{answered, entry, more_if}
-use Rattle.history_book.specs.Readings.{Last, OnDevice, Reading, is_doomed, is_live, next_command, next_of, put}
-use Rattle.history_book.specs.Settings.{Setting, is_device}
-use Rattle.history_book.specs.declared.entries.Entry.TheVariants.{Did}
-use Rattle.home_types.specs.Commands.{holds}
-use Rattle.home_types.specs.Kinds.{kind_at}
-use Rattle.home_types.specs.declared.commands.Answer.TheVariants.{Skipped}
-use Rattle.home_types.specs.declared.commands.Command.{Command}
-use Rattle.home_types.specs.declared.kinds.Kind.{Kind}
-use Rattle.lock_leasing.specs.Configurations.{Grips, grips_command, point}
-use Rattle.lock_leasing.specs.Order.{InHistoryOrder}
-use Rattle.lock_leasing.specs.Waits.{grip_wait}
-use Rattle.serial_line.specs.Marks.{Mark}
-use Rattle.std.proofs.Common.{ap, arith, refl, subst, sym, ◌∙◌}
-use Rattle.std.proofs.lemmas.Grind.{common_steps}
-use Rattle.std.specs.Option.{option_or}
-use Rattle.std.specs.Prelude.{Bool, List, None, Option, Some, drop, false, is_none, is_some, not, true, ℕ, ◌&&◌, ◌+◌, ◌||◌, ◌≡◌, ◌≢◌}
+use Rattle.window_order.proofs.Prelude.{Bool, Command, CutAt, Did, GetsAnswer, Grips, InHistoryOrder, Kind, Last, List, Mark, MarksAreKept, None, OnDevice, Option, OrderIsKept, Reading, Setting, Skipped, Some, answered, ap, arith, command_at, commands_of, common_steps, drop, entry, false, grip_wait, grips_command, holds, is_device, is_doomed, is_live, is_none, is_some, kind_at, more_if, next_command, next_of, not, option_or, point, put, put_keeps, put_other, put_same, refl, run_no, run_state, skip_answered, subst, sym, touches_from, true, two_places, window_of, ℕ, ◌&&◌, ◌+◌, ◌||◌, ◌∙◌, ◌≡◌, ◌≢◌}
 use Rattle.window_order.proofs.AnsweredTables.{answered_run}
 use Rattle.window_order.proofs.Grips.{HoldsNone, fits_other, held_none, holds_none, in_place}
 use Rattle.window_order.proofs.HistoryOrder.{SeesSame, last_history, same_history}
@@ -28,9 +7,6 @@ use Rattle.window_order.proofs.ReadFacts.{IsRead}
 use Rattle.window_order.proofs.Runs.{cut_live, live_uncommitted}
 use Rattle.window_order.proofs.Steps.{gets_answer, next_is}
 use Rattle.window_order.proofs.TouchedLines.{marks_same}
-use Rattle.window_order.specs.MarksKept.{MarksAreKept}
-use Rattle.window_order.specs.OrderKept.{OrderIsKept}
-use Rattle.window_order.specs.ReadWindows.{run_state, window_of}
 
 -- What an answer Skipped says of the run's devices: nothing
 

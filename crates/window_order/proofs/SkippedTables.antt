@@ -1,32 +1,5 @@
 -- The lineage table is kept where a command is skipped by its guard.
-use Rattle.command_rules.specs.Items.{of_run}
-use Rattle.command_rules.specs.Rosters.{command_at, commands_of, run_no, touches, touches_from}
-use Rattle.device_order.proofs.Cited.{next_used, two_places}
-use Rattle.device_order.specs.LineEntries.{stage_of, usage}
-use Rattle.device_order.specs.LineWords.{CutAt}
-use Rattle.device_order.specs.RunStates.{rest, uses_device}
-use Rattle.device_order.specs.Usages.{stage_is_open}
-use Rattle.history_book.proofs.Cited.{put_other, put_same}
-use Rattle.history_book.specs.Histories.{entry}
-use Rattle.history_book.specs.Plans.{planned_end, planned_start}
-use Rattle.history_book.specs.Readings.{OfRun, OnDevice, Reading, did, is_committing, is_doomed, next_of, pends}
-use Rattle.history_book.specs.Settings.{Setting}
-use Rattle.history_book.specs.declared.entries.Entry.TheVariants.{Did}
-use Rattle.home_types.specs.HomeStates.{stand_at}
-use Rattle.home_types.specs.declared.commands.Answer.TheVariants.{Skipped}
-use Rattle.home_types.specs.declared.commands.Command.{Command}
-use Rattle.home_types.specs.declared.commands.View.TheVariants.{Down}
-use Rattle.lineage_table.proofs.Cited.{status_at, without_at}
-use Rattle.lineage_table.specs.Accesses.{accesses_without, is_of, status_of}
-use Rattle.lineage_table.specs.Lineages.{LineageState, released, removed}
-use Rattle.lineage_table.specs.declared.accesses.Access.{Access}
-use Rattle.lineage_table.specs.declared.accesses.Status.TheVariants.{Acquired, Released, Scheduled}
-use Rattle.lock_leasing.specs.Configurations.{Grip, Grips, grips_command, grips_undo, is_command, point}
-use Rattle.lock_leasing.specs.Tables.{uses, view_when}
-use Rattle.std.proofs.Common.{ap, arith, refl, subst, sym, ◌∙◌}
-use Rattle.std.proofs.lemmas.Grind.{common_steps}
-use Rattle.std.specs.List.{list_any}
-use Rattle.std.specs.Prelude.{Bool, List, None, Option, Some, drop, false, if◌then◌else◌, is_none, is_some, length, not, option_map, true, unwrap_or, ℕ, ◌&&◌, ◌++◌, ◌+◌, ◌-◌, ◌<◌, ◌==◌, ◌||◌, ◌∷◌, ◌≡◌, ◌≢◌, ◌≤◌}
+use Rattle.window_order.proofs.Prelude.{Access, Acquired, Bool, ChangesEach, Command, CutAt, Did, Down, Grip, Grips, LineageIsKept, LineageState, List, None, OfRun, OnDevice, Option, Reading, Released, Scheduled, Setting, Skipped, Some, TableIsKept, access_read, accesses_along, accesses_read, accesses_without, ap, arith, command_at, commands_of, commits_write, common_steps, did, drop, entry, false, grips_command, grips_undo, if◌then◌else◌, is_command, is_committing, is_doomed, is_none, is_of, is_some, length, list_any, next_of, next_used, not, of_run, option_map, pends, planned_end, planned_start, point, put_other, put_same, refl, released, removed, rest, run_no, run_state, skipped_change, skipped_lineage, stage_is_open, stage_of, stand_at, status_at, status_of, subst, sym, touches, touches_from, true, two_places, unplaced_on, unwrap_or, usage, uses, uses_device, view_when, without_at, ℕ, ◌&&◌, ◌++◌, ◌+◌, ◌-◌, ◌<◌, ◌==◌, ◌||◌, ◌∙◌, ◌∷◌, ◌≡◌, ◌≢◌, ◌≤◌}
 use Rattle.window_order.proofs.AccessLists.{SameBut, along_absent, along_but, along_lacks, along_there, any_but, front_accesses, front_but, front_lacks}
 use Rattle.window_order.proofs.AnsweredTables.{answered_elsewhere, answered_run, left_after, never_passed, none_commits, uses_now}
 use Rattle.window_order.proofs.Goes.{open_behind}
@@ -36,9 +9,6 @@ use Rattle.window_order.proofs.SkippedCommands.{IsSkipped, skipped_holds, skippe
 use Rattle.window_order.proofs.Steps.{next_is}
 use Rattle.window_order.proofs.TableFrames.{SameUses, access_by, commits_by, lineage_changed, lineage_same, may_by, put_says, same_committed, same_unplaced, uses_by, write_by}
 use Rattle.window_order.proofs.TableSteps.{changed_table}
-use Rattle.window_order.specs.ReadWindows.{run_state}
-use Rattle.window_order.specs.TableChanges.{ChangesEach, skipped_change, skipped_lineage}
-use Rattle.window_order.specs.TableKept.{LineageIsKept, TableIsKept, access_read, accesses_along, accesses_read, commits_write, unplaced_on}
 
 abbrev is_committed_run : OfRun → Bool
 is_committed_run o = unwrap_or (option_map is_committing o.ended) false

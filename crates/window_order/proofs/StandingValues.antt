@@ -1,38 +1,9 @@
 -- Where a device stands: at its standing value, where it is home and up, and where a command's grip of it is out.
-use Rattle.command_rules.specs.Items.{is_ran}
-use Rattle.command_rules.specs.Rosters.{commands_of, is_on, touches}
-use Rattle.device_order.proofs.Cited.{effect, stand_line, stands}
-use Rattle.device_order.specs.LineWords.{at_device, last_in_effect, standing_value_on}
-use Rattle.device_order.specs.Records.{walk_start}
+use Rattle.window_order.proofs.Prelude.{Back, Bool, Command, Commands, Failed, Failure, Grip, Grips, IsTrue, Item, List, None, Occurred, OfRun, Option, OrderIsKept, Probes, Purpose, Ran, Reading, Restart, Setting, Some, Undoes, Usage, Used, Write, [], ap, arith, asks_next, asks_on, at_device, both_ways, commands_of, common_steps, device_record, effect, effective, effective_write, entries, entry_if, false, fold, grips_command, has_written, held_by, holds_grip, if◌then◌else◌, is_command, is_device, is_free, is_in_effect, is_live, is_none, is_on, is_ran, is_some, is_undone, is_weak, last_in_effect, last_some, list_any, next_of, not, option_map, option_or, or_right, point, probe_of, refl, run_state, slice_get, stand_at, stand_line, standing_value, standing_value_on, stands_in, subst, suc, sym, touches, true, unwrap_or, usage, walk_start, window_of, with_order_entry, write_of, written_or_first, zero, ℕ, ◌&&◌, ◌==◌, ◌||◌, ◌∙◌, ◌∷◌, ◌≡◌}
+use Rattle.device_order.proofs.Cited.{stands}
 use Rattle.device_order.specs.Claims.{StandsAt, value_in_effect}
-use Rattle.device_order.specs.LineEntries.{entries, entry_if, usage, with_order_entry}
-use Rattle.device_order.specs.Usages.{holds_grip, is_free, is_in_effect}
-use Rattle.device_order.specs.Walks.{effective, written_or_first}
-use Rattle.device_order.specs.Windows.{device_record}
-use Rattle.device_order.specs.declared.records.Event.TheVariants.{Failure, Restart}
-use Rattle.device_order.specs.declared.records.OrderEntry.TheVariants.{Occurred, Used}
-use Rattle.device_order.specs.declared.records.Usage.{Usage}
-use Rattle.history_book.proofs.Cited.{asks_next, stands_in}
-use Rattle.history_book.specs.Readings.{OfRun, Reading, asks_on, has_written, is_live, next_of}
-use Rattle.history_book.specs.Settings.{Setting, is_device, is_weak}
-use Rattle.home_types.specs.HomeStates.{stand_at}
-use Rattle.home_types.specs.declared.commands.Command.{Command}
-use Rattle.home_types.specs.declared.items.Item.TheVariants.{Back, Failed, Ran}
-use Rattle.home_types.specs.declared.items.Item.{Item}
-use Rattle.lock_leasing.specs.Configurations.{Grip, Grips, grips_command, is_command, point}
-use Rattle.lock_leasing.specs.declared.purposes.Purpose.TheVariants.{Commands, Probes, Undoes}
-use Rattle.lock_leasing.specs.declared.purposes.Purpose.{Purpose}
-use Rattle.lock_leasing.specs.Words.{Write, effective_write, is_undone, last_some, standing_value, write_of}
-use Rattle.std.proofs.Common.{ap, arith, refl, subst, sym, ◌∙◌}
-use Rattle.std.proofs.lemmas.Bool.{both_ways, or_right}
-use Rattle.std.proofs.lemmas.Grind.{common_steps}
-use Rattle.std.specs.List.{list_any}
-use Rattle.std.specs.Option.{option_or}
-use Rattle.std.specs.Prelude.{Bool, IsTrue, List, None, Option, Some, [], false, fold, if◌then◌else◌, is_none, is_some, not, option_map, slice_get, suc, true, unwrap_or, zero, ℕ, ◌&&◌, ◌==◌, ◌||◌, ◌∷◌, ◌≡◌}
 use Rattle.window_order.proofs.PromisedWords.{device_below, effect_held, none_has, written_touches}
 use Rattle.window_order.proofs.ReadFacts.{IsRead}
-use Rattle.window_order.specs.OrderKept.{OrderIsKept}
-use Rattle.window_order.specs.ReadWindows.{held_by, probe_of, run_state, window_of}
 
 -- the value of a write, if there is one, else the first one
 abbrev pub value_of : Option Write → ℕ → ℕ

@@ -1,41 +1,5 @@
 -- Each kind of change keeps the order of a window.
-use Rattle.command_rules.specs.Items.{is_ran}
-use Rattle.command_rules.specs.Rosters.{command_at, commands_of, is_on, is_run, no_command, run_no, touches}
-use Rattle.device_order.proofs.Cited.{command_out, next_used, read_answered, run_commits, run_placed, window_begins, write_answered}
-use Rattle.device_order.specs.LineChanges.{Lacks}
-use Rattle.device_order.specs.LineEntries.{command_grip, stage_of, usage}
-use Rattle.device_order.specs.LineWords.{CutAt, is_calm_line}
-use Rattle.device_order.specs.RunStates.{device_summary, rest, uses_device}
-use Rattle.device_order.specs.Summaries.{AreHomed}
-use Rattle.device_order.specs.Usages.{awaits_first, holds_command, is_seen_down, stage_is_open}
-use Rattle.device_order.specs.WindowSteps.{ChangesInPlace, GetsAnswer}
-use Rattle.device_order.specs.Windows.{WindowInvariant}
-use Rattle.device_order.specs.declared.records.HeldGrip.TheVariants.{Reads, Writes}
-use Rattle.history_book.proofs.Cited.{IsShaped, aborted, asks_guard, asks_next, put_keeps, put_other, put_same, some_is}
-use Rattle.history_book.specs.Histories.{answered, entry, with_placed}
-use Rattle.history_book.specs.Lines.{split_at}
-use Rattle.history_book.specs.Readings.{OfRun, OnDevice, PlacedAt, Planned, Reading, asks_on, did, is_committed, is_committing, is_doomed, is_live, next_command, next_of, nothing_read, put, sees_down, view_of}
-use Rattle.history_book.specs.Settings.{Setting, is_device}
-use Rattle.history_book.specs.WellFormed.{may_follow}
-use Rattle.history_book.specs.declared.entries.Cause.{Cause}
-use Rattle.history_book.specs.declared.entries.End.TheVariants.{Committed}
-use Rattle.history_book.specs.declared.entries.Entry.TheVariants.{Arrived, Did, Ended, Placed}
-use Rattle.home_types.specs.Commands.{driven, fails, holds, reads, register_after}
-use Rattle.home_types.specs.HomeStates.{stand_at}
-use Rattle.home_types.specs.Kinds.{kind_at}
-use Rattle.home_types.specs.declared.commands.Answer.{Answer}
-use Rattle.home_types.specs.declared.commands.Answer.TheVariants.{Fine, Found}
-use Rattle.home_types.specs.declared.commands.Command.{Command}
-use Rattle.lock_leasing.specs.Configurations.{Grip, Grips, is_out, no_grips, point}
-use Rattle.lock_leasing.specs.declared.purposes.Purpose.TheVariants.{Commands, Probes, Undoes}
-use Rattle.lock_leasing.specs.declared.purposes.Purpose.{Purpose}
-use Rattle.lock_leasing.specs.Places.{GripsFit, IsClear}
-use Rattle.lock_leasing.specs.Waits.{behind_wait, dirty_wait, grip_wait}
-use Rattle.lock_leasing.specs.Words.{has_effect, live_before}
-use Rattle.std.proofs.Common.{ap, arith, cond, refl, subst, sym, ◌∙◌}
-use Rattle.std.proofs.lemmas.Grind.{common_steps}
-use Rattle.std.proofs.lemmas.List.{take-append-drop}
-use Rattle.std.specs.Prelude.{Bool, List, None, Option, Some, [], count_by, drop, false, find, if◌then◌else◌, is_none, is_some, length, nat_lt, not, option_map, slice_get, slice_index_or, suc, take, true, unwrap_or, zero, ℕ, ◌&&◌, ◌++◌, ◌+◌, ◌<◌, ◌==◌, ◌||◌, ◌∷◌, ◌≡◌, ◌≢◌}
+use Rattle.window_order.proofs.Prelude.{Answer, AreHomed, Arrived, Bool, Cause, ChangesInPlace, Command, Commands, Committed, CutAt, Did, Ended, Fine, Found, GetsAnswer, Grip, Grips, GripsFit, IsClear, IsShaped, Lacks, List, None, OfRun, OnDevice, Option, OrderIsKept, Placed, PlacedAt, Planned, Probes, Purpose, Reading, Reads, Setting, Some, Undoes, WindowInvariant, Writes, [], aborted, answered, ap, arith, asks_guard, asks_next, asks_on, awaits_first, behind_wait, command_at, command_grip, command_out, commands_of, common_steps, cond, count_by, device_summary, did, dirty_wait, driven, drop, entry, fails, false, find, grip_wait, has_effect, held_by, holds, holds_command, if◌then◌else◌, is_calm_line, is_committed, is_committing, is_device, is_doomed, is_live, is_none, is_on, is_out, is_ran, is_run, is_seen_down, is_some, kind_at, length, live_before, may_follow, nat_lt, next_command, next_of, next_used, no_command, no_grips, not, nothing_read, option_map, point, probe_of, put, put_keeps, put_other, put_same, read_answered, reads, refl, register_after, rest, run_commits, run_no, run_placed, run_state, sees_down, slice_get, slice_index_or, some_is, split_at, stage_is_open, stage_of, stand_at, subst, suc, sym, take, take-append-drop, touches, true, unwrap_or, usage, uses_device, view_of, window_begins, window_of, with_placed, write_answered, zero, ℕ, ◌&&◌, ◌++◌, ◌+◌, ◌<◌, ◌==◌, ◌||◌, ◌∙◌, ◌∷◌, ◌≡◌, ◌≢◌}
 use Rattle.window_order.proofs.ClearLines.{calm_place}
 use Rattle.window_order.proofs.Firsts.{IsNewest, calm_behind, did_history, seen_view, unseen_behind}
 use Rattle.window_order.proofs.Goes.{clean_before, none_before, none_hold, open_behind, view_up}
@@ -43,8 +7,6 @@ use Rattle.window_order.proofs.Grips.{HoldsNone, fits_other, fits_same, fits_wit
 use Rattle.window_order.proofs.HistoryOrder.{placed_history, same_history}
 use Rattle.window_order.proofs.ReadFacts.{IsRead, rest_drop, rest_next}
 use Rattle.window_order.proofs.Runs.{cut_live, four, lacks_parts, live_run, live_uncommitted, run_positive, state_by, three, uses_homed}
-use Rattle.window_order.specs.OrderKept.{OrderIsKept}
-use Rattle.window_order.specs.ReadWindows.{held_by, probe_of, run_state, window_of}
 
 -- The start
 

@@ -1,36 +1,9 @@
 -- What the calls of a lineage table ask for, where a command that was out is answered.
-use Rattle.command_rules.specs.Items.{is_ran, of_run}
-use Rattle.command_rules.specs.Rosters.{commands_of, run_no, touches}
+use Rattle.window_order.proofs.Prelude.{Access, Acquired, Back, Bool, Commands, CutAt, Failed, Free, Grips, IsWaiting, Item, LineageIsKept, LineageState, List, OrderIsKept, Ran, Reading, Reads, Released, Scheduled, Setting, Some, Status, Usage, WalkHolds, Writes, [], access_read, accesses_along, ap, arith, asks_on, commands_of, commits_write, common_steps, did, entries, eq-eqb, eqb-true, false, grips_command, held_by, holds_command, if◌then◌else◌, is_acquired, is_device, is_doomed, is_live, is_open, is_ran, is_some, is_touched, list_any, list_any-append, next_of, not, of_run, open_runs_are_last, opens, or_parts, or_right, pends, point, refl, run_no, run_state, some_acquired, stand_at, status_at, status_by_answers, status_of, subst, sym, touches, true, usage, uses, walk_start, window_of, ℕ, ◌&&◌, ◌++◌, ◌==◌, ◌||◌, ◌∙◌, ◌∷◌, ◌≡◌}
 use Rattle.device_order.proofs.Cited.{cut as use_cut}
-use Rattle.device_order.specs.LineEntries.{entries, usage}
-use Rattle.device_order.specs.LineWords.{CutAt}
-use Rattle.device_order.specs.Records.{walk_start}
-use Rattle.device_order.specs.Usages.{holds_command}
-use Rattle.device_order.specs.Walks.{GripFits as HoldsFit, WalkHolds}
-use Rattle.device_order.specs.declared.records.HeldGrip.TheVariants.{Free, Reads, Undoes as ToUndo, Writes}
+use Rattle.device_order.specs.Walks.{GripFits as HoldsFit}
+use Rattle.device_order.specs.declared.records.HeldGrip.TheVariants.{Undoes as ToUndo}
 use Rattle.device_order.specs.declared.records.HeldGrip.{HeldGrip}
-use Rattle.device_order.specs.declared.records.Usage.{Usage}
-use Rattle.history_book.specs.Readings.{Reading, asks_on, did, is_doomed, is_live, is_open, next_of, pends}
-use Rattle.history_book.specs.Settings.{Setting, is_device}
-use Rattle.home_types.specs.HomeStates.{stand_at}
-use Rattle.home_types.specs.declared.items.Item.TheVariants.{Back, Failed, Ran}
-use Rattle.home_types.specs.declared.items.Item.{Item}
-use Rattle.lineage_table.proofs.Cited.{status_at}
-use Rattle.lineage_table.specs.Accesses.{is_acquired, some_acquired, status_of}
-use Rattle.lineage_table.specs.Lineages.{LineageState}
-use Rattle.lineage_table.specs.declared.accesses.Access.{Access}
-use Rattle.lineage_table.specs.declared.accesses.Status.TheVariants.{Acquired, Released, Scheduled}
-use Rattle.lineage_table.specs.declared.accesses.Status.{Status}
-use Rattle.lock_leasing.specs.Configurations.{Grips, grips_command, point}
-use Rattle.lock_leasing.specs.declared.purposes.Purpose.TheVariants.{Commands}
-use Rattle.lock_leasing.specs.Order.{is_touched, open_runs_are_last, opens}
-use Rattle.lock_leasing.specs.Tables.{status_by_answers, uses}
-use Rattle.std.proofs.Common.{ap, arith, refl, subst, sym, ◌∙◌}
-use Rattle.std.proofs.lemmas.Bool.{eq-eqb, eqb-true, or_parts, or_right}
-use Rattle.std.proofs.lemmas.Grind.{common_steps}
-use Rattle.std.proofs.lemmas.List.Folds.{list_any-append}
-use Rattle.std.specs.List.{list_any}
-use Rattle.std.specs.Prelude.{Bool, List, Some, [], false, if◌then◌else◌, is_some, not, true, ℕ, ◌&&◌, ◌++◌, ◌==◌, ◌||◌, ◌∷◌, ◌≡◌}
 use Rattle.window_order.proofs.AccessLists.{along_none, front_accesses, front_none}
 use Rattle.window_order.proofs.AnsweredTables.{TouchesNow, accesses_around, never_passed, none_in_front, pending_touches, works_now}
 use Rattle.window_order.proofs.Firsts.{below_home, device_order_at, unseen_behind}
@@ -41,10 +14,6 @@ use Rattle.window_order.proofs.PromisedWords.{command_held}
 use Rattle.window_order.proofs.ReadFacts.{IsRead}
 use Rattle.window_order.proofs.Representing.{gripped_pends}
 use Rattle.window_order.proofs.Runs.{both, three}
-use Rattle.window_order.specs.OrderKept.{OrderIsKept}
-use Rattle.window_order.specs.ReadWindows.{held_by, run_state, window_of}
-use Rattle.window_order.specs.TableChanges.{IsWaiting}
-use Rattle.window_order.specs.TableKept.{LineageIsKept, access_read, accesses_along, commits_write}
 
 -- The order of the runs around a command that is out
 

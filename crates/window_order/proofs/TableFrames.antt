@@ -1,29 +1,7 @@
 -- What an entry or a grip leaves of a lineage: where it changes the access of one run at most.
-use Rattle.command_rules.specs.Rosters.{Run, is_on, touches, touches_from, run_no}
-use Rattle.device_order.specs.LineWords.{RunsAreDistinct}
-use Rattle.history_book.proofs.Cited.{put_all}
-use Rattle.history_book.specs.Plans.{planned_end, planned_start}
-use Rattle.history_book.specs.Readings.{OfRun, Reading, is_committing, put}
-use Rattle.history_book.specs.Settings.{Setting}
-use Rattle.home_types.specs.HomeStates.{stand_at}
-use Rattle.home_types.specs.declared.commands.View.TheVariants.{Down}
-use Rattle.home_types.specs.declared.items.Item.TheVariants.{Back, Failed, Ran}
-use Rattle.home_types.specs.declared.items.Item.{Item}
-use Rattle.lineage_table.specs.Accesses.{with_change}
-use Rattle.lineage_table.specs.Lineages.{LineageState}
-use Rattle.lineage_table.specs.declared.accesses.Access.{Access}
-use Rattle.lineage_table.specs.declared.accesses.Status.TheVariants.{Acquired, Released, Scheduled}
-use Rattle.lineage_table.specs.declared.accesses.Status.{Status}
-use Rattle.lock_leasing.specs.Configurations.{Grips, grips_command, grips_undo, point}
-use Rattle.lock_leasing.specs.Tables.{may_be_passed, uses, view_when}
-use Rattle.lock_leasing.specs.Words.{committed_write}
-use Rattle.std.proofs.Common.{ap, refl, subst, sym, ◌∙◌}
-use Rattle.std.specs.List.{list_any}
-use Rattle.std.specs.Option.{option_or}
-use Rattle.std.specs.Prelude.{Bool, List, None, Option, Some, [], false, fold, if◌then◌else◌, is_none, is_some, length, not, option_map, suc, true, unwrap_or, ℕ, ◌&&◌, ◌+◌, ◌||◌, ◌∷◌, ◌≡◌, ◌≢◌, ◌≤◌}
+use Rattle.window_order.proofs.Prelude.{Access, Acquired, Back, Bool, Down, Failed, Grips, Item, LineageIsKept, LineageState, List, None, OfRun, Option, Ran, Reading, Released, Run, RunsAreDistinct, Scheduled, Setting, Some, Status, [], access_read, accesses_read, ap, commits_write, committed_write, false, fold, grips_command, grips_undo, if◌then◌else◌, is_committing, is_none, is_on, is_some, length, list_any, may_be_passed, not, option_map, option_or, planned_end, planned_start, point, put, put_all, refl, run_no, stand_at, subst, suc, sym, touches, touches_from, true, unplaced_among, unwrap_or, uses, view_when, with_change, ℕ, ◌&&◌, ◌+◌, ◌||◌, ◌∙◌, ◌∷◌, ◌≡◌, ◌≢◌, ◌≤◌}
 use Rattle.window_order.proofs.AccessLists.{along_same, change_along}
 use Rattle.window_order.proofs.GripWords.{SameGrip}
-use Rattle.window_order.specs.TableKept.{LineageIsKept, access_read, accesses_read, commits_write, unplaced_among}
 
 -- the words on a run and a device, by the record of the run
 

@@ -1,26 +1,5 @@
 -- Each step keeps the lineage table of a window.
-use Rattle.command_rules.specs.Rosters.{command_at, commands_of, device_no, run_no}
-use Rattle.device_order.proofs.Cited.{two_places}
-use Rattle.device_order.specs.LineWords.{CutAt}
-use Rattle.history_book.proofs.Cited.{put_same}
-use Rattle.history_book.specs.Histories.{entry, with_placed}
-use Rattle.history_book.specs.Lines.{split_at}
-use Rattle.history_book.specs.Readings.{Planned, Reading, did, is_access, is_doomed, next_of, pends, put}
-use Rattle.history_book.specs.Settings.{Setting}
-use Rattle.history_book.specs.WellFormed.{may_follow}
-use Rattle.history_book.specs.declared.entries.Cause.{Cause}
-use Rattle.history_book.specs.declared.entries.End.TheVariants.{Aborted, Committed}
-use Rattle.history_book.specs.declared.entries.Entry.TheVariants.{Did, Doomed, Ended, Placed, Undid}
-use Rattle.home_types.specs.declared.commands.Answer.{Answer}
-use Rattle.home_types.specs.declared.numbers.DeviceNo.{DeviceNo}
-use Rattle.lineage_table.specs.Lineages.{LineageState, committed_lineage, lineage_at, no_lineage, removed, with_lineage}
-use Rattle.lock_leasing.specs.Configurations.{Grips, grips_command, point}
-use Rattle.lock_leasing.specs.declared.purposes.Purpose.TheVariants.{Commands, Undoes}
-use Rattle.lock_leasing.specs.Places.{GripsFit, IsClear}
-use Rattle.std.proofs.Common.{ap, arith, refl, set, subst, sym, ◌∙◌}
-use Rattle.std.proofs.lemmas.Grind.{common_steps}
-use Rattle.std.proofs.lemmas.List.{get_or-set_other, get_or-set_same, length-set, set-set}
-use Rattle.std.specs.Prelude.{Bool, List, None, Option, Some, false, if◌then◌else◌, length, not, true, ℕ, ◌<◌, ◌==◌, ◌≡◌, ◌≢◌}
+use Rattle.window_order.proofs.Prelude.{Aborted, Answer, Bool, Cause, ChangesEach, Commands, Committed, CutAt, DeviceNo, Did, Doomed, Ended, Grips, GripsFit, IsClear, LineageIsKept, LineageState, List, None, Option, OrderIsKept, Placed, Planned, Reading, Setting, Some, TableIsKept, Undid, Undoes, answered_change, answered_lineage, ap, arith, command_at, commands_of, committed_lineage, common_steps, device_no, did, doomed_change, doomed_lineage, doomed_unless, entry, false, get_or-set_other, get_or-set_same, grips_command, if◌then◌else◌, is_access, is_doomed, is_named_device, length, length-set, lineage_at, may_follow, next_of, no_lineage, not, passed_if, pends, placed_change, point, put, put_same, refl, removed, run_no, set, set-set, split_at, subst, sym, true, two_places, undone_change, with_lineage, with_placed, ℕ, ◌<◌, ◌==◌, ◌∙◌, ◌≡◌, ◌≢◌}
 use Rattle.window_order.proofs.AbortedTables.{aborted_kept}
 use Rattle.window_order.proofs.AnsweredTables.{HomeFrom, TouchesNow, answered_elsewhere, answered_there}
 use Rattle.window_order.proofs.GripWords.{SameGrip, grip_elsewhere, grip_home, home_command, home_undo}
@@ -33,9 +12,6 @@ use Rattle.window_order.proofs.Representing.{gripped_pends}
 use Rattle.window_order.proofs.Runs.{cut_live}
 use Rattle.window_order.proofs.Steps.{IsOut, out_is}
 use Rattle.window_order.proofs.TableCalls.{touches_now}
-use Rattle.window_order.specs.OrderKept.{OrderIsKept}
-use Rattle.window_order.specs.TableChanges.{ChangesEach, answered_change, answered_lineage, doomed_change, doomed_lineage, passed_if, placed_change, undone_change, doomed_unless, is_named_device}
-use Rattle.window_order.specs.TableKept.{LineageIsKept, TableIsKept}
 
 -- a table whose lineages change so is kept where each change keeps its lineage
 pub changed_table : (w : Setting) (n m : Reading) (g h : Grips) (change : ℕ → LineageState → LineageState) (old new : List LineageState)

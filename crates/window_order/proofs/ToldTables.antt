@@ -1,26 +1,6 @@
 -- A command is answered Down with no call, and the lineage table is kept: the access is acquired by a run that sees the device down, or stays as it was.
-use Rattle.command_rules.specs.Items.{is_ran}
-use Rattle.command_rules.specs.Rosters.{command_at, commands_of, run_no}
-use Rattle.device_order.specs.LineWords.{CutAt}
-use Rattle.device_order.specs.RunStates.{uses_device}
-use Rattle.history_book.specs.Histories.{entry}
-use Rattle.history_book.specs.Lines.{before}
-use Rattle.history_book.specs.Readings.{Reading, did, is_doomed, is_live, is_open, next_of, pends, sees_down, view_of}
-use Rattle.history_book.specs.Settings.{Setting, is_device, is_weak}
-use Rattle.history_book.specs.declared.entries.Entry.TheVariants.{Did}
+use Rattle.window_order.proofs.Prelude.{Bool, ChangesEach, Command, CutAt, Did, Grip, Grips, LineageState, List, None, Option, OrderIsKept, Ran, Reading, Setting, Some, TableIsKept, answered_change, ap, arith, before, both_ways, command_at, commands_of, common_steps, did, drop, entry, eq-eqb, eqb-true, false, find, grips_command, holds_device, if◌then◌else◌, is_command, is_device, is_doomed, is_live, is_open, is_out, is_ran, is_some, is_undo, is_weak, list_any, list_any-append, live_runs, next_of, not, open_runs_are_last, option_map, or_left, or_right, pends, point, refl, run_no, sees_down, sym, true, unwrap_or, uses_device, view_of, ℕ, ◌&&◌, ◌++◌, ◌+◌, ◌==◌, ◌||◌, ◌∙◌, ◌∷◌, ◌≡◌, ◌≢◌}
 use Rattle.home_types.specs.declared.commands.Answer.TheVariants.{Down}
-use Rattle.home_types.specs.declared.commands.Command.{Command}
-use Rattle.home_types.specs.declared.items.Item.TheVariants.{Ran}
-use Rattle.lineage_table.specs.Lineages.{LineageState}
-use Rattle.lock_leasing.specs.Configurations.{Grip, Grips, grips_command, is_command, is_out, is_undo, point}
-use Rattle.lock_leasing.specs.Order.{open_runs_are_last}
-use Rattle.lock_leasing.specs.Words.{holds_device, live_runs}
-use Rattle.std.proofs.Common.{ap, arith, refl, sym, ◌∙◌}
-use Rattle.std.proofs.lemmas.Bool.{both_ways, eq-eqb, eqb-true, or_left, or_right}
-use Rattle.std.proofs.lemmas.Grind.{common_steps}
-use Rattle.std.proofs.lemmas.List.Folds.{list_any-append}
-use Rattle.std.specs.List.{list_any}
-use Rattle.std.specs.Prelude.{Bool, List, None, Option, Some, drop, false, find, if◌then◌else◌, is_some, not, option_map, true, unwrap_or, ℕ, ◌&&◌, ◌++◌, ◌+◌, ◌==◌, ◌||◌, ◌∷◌, ◌≡◌, ◌≢◌}
 use Rattle.window_order.proofs.AnsweredDowns.{IsToldDown, told_holds, told_left, told_next, told_open, told_touches}
 use Rattle.window_order.proofs.AnsweredTables.{TouchesNow}
 use Rattle.window_order.proofs.Firsts.{unseen_behind}
@@ -35,9 +15,6 @@ use Rattle.window_order.proofs.StandingValues.{ActsOn, acts_on, live_stands}
 use Rattle.window_order.proofs.Steps.{next_is}
 use Rattle.window_order.proofs.TableCalls.{closed_before, found}
 use Rattle.window_order.proofs.TableSteps.{answered_kept, changed_table}
-use Rattle.window_order.specs.OrderKept.{OrderIsKept}
-use Rattle.window_order.specs.TableChanges.{ChangesEach, answered_change}
-use Rattle.window_order.specs.TableKept.{TableIsKept}
 
 -- where a run is open on a device and has an answer there, no other run has a command out on it
 none_called : (w : Setting) (n : Reading) (g : Grips) (held : ℕ → ℕ) (d r q : ℕ) → IsRead w n → OrderIsKept (point w n g) held → is_open w n r d ≡ true → did n r d ≡ true → q ≢ r → grips_command g q d ≡ false

@@ -1,40 +1,11 @@
 -- The items of a line with what each has touched, step by step.
-use Rattle.command_rules.specs.Items.{is_ran}
-use Rattle.command_rules.specs.Rosters.{command_at, device_no, is_run, run_no}
-use Rattle.history_book.proofs.Cited.{aborted, is_abort, put_keeps, put_other, put_same}
-use Rattle.history_book.specs.Histories.{answered, entry, with_placed}
-use Rattle.history_book.specs.Lines.{split_at}
-use Rattle.history_book.specs.Readings.{OfRun, OnDevice, PlacedAt, Planned, Reading, did, is_access, is_live, nothing_read, put, view_by}
-use Rattle.history_book.specs.Settings.{Setting}
-use Rattle.history_book.specs.WellFormed.{may_follow}
-use Rattle.history_book.specs.declared.entries.Cause.{Cause}
-use Rattle.history_book.specs.declared.entries.End.{End}
-use Rattle.history_book.specs.declared.entries.End.TheVariants.{Aborted, Committed}
-use Rattle.history_book.specs.declared.entries.Entry.TheVariants.{Arrived, Did, Doomed, Ended, Placed, Undid}
-use Rattle.home_types.specs.declared.commands.Answer.{Answer}
-use Rattle.home_types.specs.Kinds.{kind_at}
-use Rattle.home_types.specs.declared.commands.Command.{Command}
-use Rattle.home_types.specs.declared.items.Item.TheVariants.{Back, Failed, Ran}
-use Rattle.home_types.specs.declared.items.Item.{Item}
-use Rattle.lock_leasing.specs.Configurations.{Grip, Grips, grips_command, is_command, no_grips, point}
-use Rattle.lock_leasing.specs.declared.purposes.Purpose.TheVariants.{Commands, Undoes}
-use Rattle.lock_leasing.specs.Places.{GripsFit}
+use Rattle.window_order.proofs.Prelude.{Aborted, Answer, Arrived, Back, Bool, Cause, Command, Commands, Committed, Did, Doomed, End, Ended, Failed, Grip, Grips, GripsFit, Item, List, Mark, MarksAreKept, None, OfRun, OnDevice, Option, Placed, PlacedAt, Planned, Ran, Reading, Setting, Some, Undid, Undoes, [], aborted, and_right, answered, ap, ap₂, arith, command_at, common_steps, cond, device_no, did, entry, eq-eqb, eqb-false, eqb-true, false, filter, grips_command, has_touched, if◌then◌else◌, is_abort, is_access, is_command, is_live, is_none, is_ran, is_run, is_some, kind_at, line_empty, line_inserted, line_removed, line_retold, line_settling, line_touching, list_any, marks_without, may_follow, no_grips, not, nothing_read, option_map, option_or, point, put, put_keeps, put_other, put_same, refl, run_comes, run_no, settling, split_at, stands, subst, sym, touching, true, unwrap_or, view_by, with_item, with_placed, ℕ, ◌&&◌, ◌==◌, ◌||◌, ◌∙◌, ◌∷◌, ◌≡◌, ◌≢◌}
 use Rattle.lock_leasing.specs.Standings.{has_ended, item_has_touched}
-use Rattle.lock_leasing.specs.Words.{has_touched}
-use Rattle.serial_line.proofs.Cited.{line_empty, line_inserted, line_removed, line_retold, line_settling, line_touching, run_comes}
-use Rattle.serial_line.specs.Marks.{Mark, marks_without, settling, stands, touching, with_item}
 use Rattle.serial_line.specs.Ties.{IsLineOf}
-use Rattle.std.proofs.Common.{ap, ap₂, arith, cond, refl, subst, sym, ◌∙◌}
-use Rattle.std.proofs.lemmas.Bool.{and_right, eq-eqb, eqb-false, eqb-true}
-use Rattle.std.proofs.lemmas.Grind.{common_steps}
-use Rattle.std.specs.List.{list_any}
-use Rattle.std.specs.Option.{option_or}
-use Rattle.std.specs.Prelude.{Bool, List, None, Option, Some, [], false, filter, if◌then◌else◌, is_none, is_some, not, option_map, true, unwrap_or, ℕ, ◌&&◌, ◌==◌, ◌||◌, ◌∷◌, ◌≡◌, ◌≢◌}
 use Rattle.window_order.proofs.AnsweredTables.{answered_run}
 use Rattle.window_order.proofs.Grips.{HoldsNone}
 use Rattle.window_order.proofs.ReadFacts.{IsRead}
 use Rattle.window_order.proofs.Steps.{IsOut, unplaced_holds}
-use Rattle.window_order.specs.MarksKept.{MarksAreKept}
 
 pub marks_begin : (w : Setting) → MarksAreKept (nothing_read w) no_grips []
 marks_begin w = line_empty (item_has_touched (nothing_read w) no_grips) (has_ended (nothing_read w))

@@ -1,41 +1,16 @@
 -- The items of a line with what each has touched, where a device fails or comes back, is answered for with no call, or is probed.
-use Rattle.command_rules.specs.Items.{is_ran, of_run}
-use Rattle.command_rules.specs.Rosters.{command_at, run_no}
-use Rattle.history_book.proofs.Cited.{put_keeps, put_other, put_same}
-use Rattle.history_book.specs.Histories.{answered, entry}
-use Rattle.history_book.specs.Readings.{OfRun, OnDevice, Reading, did, is_access, is_doomed, is_live, pends, put, view_by}
-use Rattle.history_book.specs.Settings.{Setting, is_weak}
-use Rattle.history_book.specs.declared.entries.Entry.TheVariants.{Did, Fell, Rose}
+use Rattle.window_order.proofs.Prelude.{Answer, Back, Bool, Command, Commands, DeviceNo, Did, Failed, Fell, Grips, Item, List, Mark, MarksAreKept, None, OfRun, OnDevice, Option, Probes, Ran, Reading, Rose, Setting, Some, [], answered, ap, arith, before_first, before_none, command_at, common_steps, did, entry, false, find, grips_command, if◌then◌else◌, is_access, is_doomed, is_item, is_live, is_ran, is_some, is_weak, kind_at, length, length-map, line_inserted, line_retold, line_touching, list_any, live_runs, not, of_run, option_or, pends, put, put_keeps, put_other, put_same, refl, run_no, stands, subst, sym, touching, true, untouched, up_to_first, view_by, with_item, ℕ, ◌&&◌, ◌+◌, ◌==◌, ◌||◌, ◌∙◌, ◌∷◌, ◌≡◌, ◌≢◌, ◌≤◌}
 use Rattle.home_types.proofs.Cited.{contains_insert}
-use Rattle.home_types.specs.Kinds.{kind_at}
-use Rattle.home_types.specs.declared.commands.Answer.{Answer}
-use Rattle.home_types.specs.declared.commands.Command.{Command}
-use Rattle.home_types.specs.declared.items.Item.TheVariants.{Back, Failed, Ran}
-use Rattle.home_types.specs.declared.items.Item.{Item}
-use Rattle.home_types.specs.declared.numbers.DeviceNo.{DeviceNo}
-use Rattle.lock_leasing.proofs.Cited.{before_first, before_none, put_at}
-use Rattle.lock_leasing.specs.Configurations.{Grips, grips_command}
-use Rattle.lock_leasing.specs.declared.purposes.Purpose.TheVariants.{Commands, Probes}
-use Rattle.lock_leasing.specs.Places.{up_to_first}
+use Rattle.lock_leasing.proofs.Cited.{put_at}
 use Rattle.lock_leasing.specs.Standings.{has_ended, item_has_touched}
-use Rattle.lock_leasing.specs.Words.{live_runs}
-use Rattle.serial_line.proofs.Cited.{line_inserted, line_retold, line_touching}
-use Rattle.serial_line.specs.Marks.{Mark, is_item, stands, touching, untouched, with_item}
 use Rattle.serial_line.specs.Ties.{IsLineOf, TouchesAs}
-use Rattle.std.proofs.Common.{ap, arith, refl, subst, sym, ◌∙◌}
-use Rattle.std.proofs.lemmas.Grind.{common_steps}
-use Rattle.std.proofs.lemmas.List.{length-map}
 use Rattle.std.specs.FinSet as set
-use Rattle.std.specs.List.{list_any}
-use Rattle.std.specs.Option.{option_or}
 use Rattle.std.specs.Ordering.{nat_cmp}
-use Rattle.std.specs.Prelude.{Bool, List, None, Option, Some, [], false, find, if◌then◌else◌, is_some, length, not, true, ℕ, ◌&&◌, ◌+◌, ◌==◌, ◌||◌, ◌∷◌, ◌≡◌, ◌≢◌, ◌≤◌}
 use Rattle.window_order.proofs.EventPlaces.{awaits_there}
 use Rattle.window_order.proofs.GripWords.{probe_home_grip, probe_out_grip}
 use Rattle.window_order.proofs.ReadFacts.{IsRead}
 use Rattle.window_order.proofs.Steps.{IsOut}
 use Rattle.window_order.proofs.TouchedLines.{marks_answered, marks_same}
-use Rattle.window_order.specs.MarksKept.{MarksAreKept}
 
 -- The place of an event
 

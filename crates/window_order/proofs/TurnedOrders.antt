@@ -1,39 +1,11 @@
 -- A device fails or comes back, and no run that counts is left that sees it up and has more to do there: first accesses and events stay in history order.
-use Rattle.command_rules.specs.Items.{is_ran, of_run}
-use Rattle.command_rules.specs.Rosters.{commands_of, device_no, is_on, run_no, touches}
-use Rattle.device_order.proofs.Cited.{EventCut, event_cut, has_entries, one_spans, restart_loses_none, two_places, undo_loses_none}
-use Rattle.device_order.specs.LineEntries.{entries, usage}
-use Rattle.device_order.specs.LineWords.{CutAt, any_run, at_device}
-use Rattle.device_order.specs.Usages.{holds_command, spans_up}
-use Rattle.device_order.specs.Walks.{has}
-use Rattle.device_order.specs.Windows.{device_record}
-use Rattle.history_book.proofs.Cited.{some_is}
-use Rattle.history_book.specs.Histories.{with_event}
-use Rattle.history_book.specs.Lines.{is_event_on}
-use Rattle.history_book.specs.Readings.{Event, Reading, is_committed, is_doomed, is_live, is_open, pends, sees_up, view_of}
-use Rattle.history_book.specs.Settings.{Setting, is_device, is_weak}
-use Rattle.home_types.specs.declared.items.Item.TheVariants.{Back, Failed, Ran}
-use Rattle.home_types.specs.declared.items.Item.{Item}
-use Rattle.lock_leasing.specs.Configurations.{Grips, point}
-use Rattle.lock_leasing.specs.declared.purposes.Purpose.TheVariants.{Probes, Undoes}
-use Rattle.lock_leasing.specs.Order.{InHistoryOrder, is_in_line, is_late}
-use Rattle.lock_leasing.specs.Waits.{lost_by}
-use Rattle.lock_leasing.specs.Words.{live_runs}
-use Rattle.std.proofs.Common.{ap, arith, cond, refl, sym, ◌∙◌}
-use Rattle.std.proofs.lemmas.Bool.{eq-eqb, eqb-true, or_parts}
-use Rattle.std.proofs.lemmas.Grind.{common_steps}
-use Rattle.std.proofs.lemmas.List.Folds.{list_any-append}
-use Rattle.std.proofs.lemmas.List.{drop_all}
-use Rattle.std.specs.List.{list_any}
-use Rattle.std.specs.Prelude.{Bool, List, None, Option, Some, [], drop, false, find, if◌then◌else◌, is_some, length, not, true, unwrap_or, ℕ, ◌&&◌, ◌++◌, ◌==◌, ◌||◌, ◌∷◌, ◌≡◌, ◌≢◌}
+use Rattle.window_order.proofs.Prelude.{Back, Bool, CutAt, Event, EventCut, Failed, Grips, InHistoryOrder, Item, List, None, Option, OrderIsKept, Probes, Ran, Reading, Setting, Some, Undoes, [], any_run, ap, arith, at_device, commands_of, common_steps, cond, device_no, device_record, drop, drop_all, entries, eq-eqb, eqb-true, event_cut, false, find, has, has_entries, held_by, holds_command, if◌then◌else◌, is_committed, is_device, is_doomed, is_event_on, is_in_line, is_late, is_live, is_on, is_open, is_ran, is_some, is_weak, length, list_any, list_any-append, live_runs, lost_by, not, of_run, one_spans, or_parts, pends, point, probe_of, refl, restart_loses_none, run_no, run_state, sees_up, some_is, spans_up, sym, touches, true, two_places, undo_loses_none, unwrap_or, usage, view_of, window_of, with_event, ℕ, ◌&&◌, ◌++◌, ◌==◌, ◌||◌, ◌∙◌, ◌∷◌, ◌≡◌, ◌≢◌}
 use Rattle.window_order.proofs.EventHistory.{EventComes, event_history, passing_history}
 use Rattle.window_order.proofs.EventPlaces.{event_calm, event_place, line_stands, spans_same}
 use Rattle.window_order.proofs.Firsts.{below_home, device_order_at}
 use Rattle.window_order.proofs.Goes.{found_live, stands_committed}
 use Rattle.window_order.proofs.Grips.{held_own}
 use Rattle.window_order.proofs.ReadFacts.{IsRead}
-use Rattle.window_order.specs.OrderKept.{OrderIsKept}
-use Rattle.window_order.specs.ReadWindows.{held_by, probe_of, run_state, window_of}
 
 -- the device's event comes, and no other run than one that is doomed by it sees the device up with more to do there
 pub record Turns (w : Setting) (n m : Reading) (d : ℕ) (x : Item) : Type 0 where

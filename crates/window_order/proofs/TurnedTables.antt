@@ -1,36 +1,11 @@
 -- A device fails or comes back, and the lineage table is kept: it is counted so, and the accesses stay.
-use Rattle.command_rules.specs.Items.{of_run}
-use Rattle.command_rules.specs.Rosters.{device_no, run_no}
-use Rattle.history_book.proofs.Cited.{any_put_before}
-use Rattle.history_book.specs.Histories.{entry}
-use Rattle.history_book.specs.Lines.{put_before}
-use Rattle.history_book.specs.Readings.{Reading, is_access, put}
-use Rattle.history_book.specs.Settings.{Setting}
-use Rattle.history_book.specs.declared.entries.Entry.TheVariants.{Did, Fell, Rose, Undid}
-use Rattle.home_types.specs.HomeStates.{stand_at}
-use Rattle.home_types.specs.declared.commands.Answer.{Answer}
-use Rattle.home_types.specs.declared.items.Item.TheVariants.{Back, Failed, Ran}
-use Rattle.home_types.specs.declared.items.Item.{Item}
-use Rattle.home_types.specs.declared.numbers.DeviceNo.{DeviceNo}
-use Rattle.lineage_table.specs.Lineages.{LineageState, counted_up}
-use Rattle.lineage_table.specs.declared.accesses.Access.{Access}
-use Rattle.lock_leasing.specs.Configurations.{Grips, point}
-use Rattle.lock_leasing.specs.declared.purposes.Purpose.TheVariants.{Commands, Probes, Undoes}
-use Rattle.lock_leasing.specs.Words.{committed_write}
-use Rattle.std.proofs.Common.{ap, refl, subst, sym, ◌∙◌}
-use Rattle.std.specs.List.{list_any}
-use Rattle.std.specs.Option.{option_or}
-use Rattle.std.specs.Prelude.{Bool, List, None, Option, Some, [], false, fold, if◌then◌else◌, not, true, unwrap_or, ℕ, ◌&&◌, ◌==◌, ◌||◌, ◌∷◌, ◌≡◌}
+use Rattle.window_order.proofs.Prelude.{Access, Answer, Back, Bool, ChangesEach, Commands, DeviceNo, Did, Failed, Fell, Grips, Item, LineageIsKept, LineageState, List, None, Option, OrderIsKept, Probes, Ran, Reading, Rose, Setting, Some, TableIsKept, Undid, Undoes, [], access_read, accesses_along, answered_change, any_put_before, ap, commits_write, committed_write, counted_up, device_no, entry, false, fold, if◌then◌else◌, is_access, list_any, not, of_run, option_or, point, put, put_before, refl, run_no, stand_at, subst, sym, true, turned_change, unwrap_or, uses, ℕ, ◌&&◌, ◌==◌, ◌||◌, ◌∙◌, ◌∷◌, ◌≡◌}
 use Rattle.window_order.proofs.EventPlaces.{awaits_there}
 use Rattle.window_order.proofs.GrippedTables.{undid_kept}
 use Rattle.window_order.proofs.ReadFacts.{IsRead}
 use Rattle.window_order.proofs.TableSteps.{answered_each, changed_table, same_table}
 use Rattle.window_order.proofs.TableFrames.{access_gripped, lineage_same, may_gripped, uses_same}
 use Rattle.window_order.proofs.GripWords.{SameGrip, probe_home_grip, probe_out_grip}
-use Rattle.window_order.specs.OrderKept.{OrderIsKept}
-use Rattle.window_order.specs.TableChanges.{ChangesEach, answered_change, turned_change}
-use Rattle.window_order.specs.TableKept.{LineageIsKept, TableIsKept, access_read, accesses_along, commits_write}
-use Rattle.lock_leasing.specs.Tables.{uses}
 
 -- An event in the line
 

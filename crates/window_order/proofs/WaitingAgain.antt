@@ -1,18 +1,9 @@
 -- How the accesses behind a place wait again by calls of a lineage table.
-use Rattle.home_types.specs.declared.numbers.RunNo.{RunNo}
+use Rattle.window_order.proofs.Prelude.{Access, Acquired, Bool, ForSome, IsDisciplined, LineageState, List, None, Option, Released, RunNo, Scheduled, Some, Status, access_of, accesses_at, accesses_from, ap, false, has_access, is_released, length, lineage_at, removed, rescheduled, run_behind, scheduled, slice_set, some_acquired, status_of, subst, sym, true, with_again, with_lineage, ℕ, ◌<◌, ◌∙◌, ◌≡◌}
 use Rattle.window_order.proofs.NotedAnswers.{lineage_set, with_same}
-use Rattle.lineage_table.specs.Accesses.{IsDisciplined, access_of, has_access, is_released, run_behind, some_acquired, status_of}
-use Rattle.lineage_table.specs.Lineages.{LineageState, accesses_at, lineage_at, removed, scheduled, with_lineage}
 use Rattle.lineage_table.specs.contracts.accesses.StatusPartialEq.TheImpl.{eq-value}
-use Rattle.lineage_table.specs.declared.accesses.Access.{Access}
-use Rattle.lineage_table.specs.declared.accesses.Status.TheVariants.{Acquired, Released, Scheduled}
-use Rattle.lineage_table.specs.declared.accesses.Status.{Status}
-use Rattle.std.proofs.Common.{ap, subst, sym, ◌∙◌}
-use Rattle.std.specs.Option.{ForSome}
-use Rattle.std.specs.Prelude.{Bool, List, None, Option, Some, false, length, slice_set, true, ℕ, ◌<◌, ◌≡◌}
 use Rattle.window_order.proofs.AgainAccesses.{WaitsAgain, none_again, same_again, waits_again_one}
 use Rattle.window_order.proofs.TableSteps.{with_both}
-use Rattle.window_order.specs.TableChanges.{accesses_from, rescheduled, with_again}
 
 pub tests_released : (s : Status) (b : Bool) → b ≡ eq-value.it s Released → is_released s ≡ b
 tests_released Released b h = sym h

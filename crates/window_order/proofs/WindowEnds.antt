@@ -1,35 +1,9 @@
 -- The end of a window, where no run is live: its line is a serial order for its history, and its last state agrees with the serial execution of the line.
-use Rattle.command_rules.specs.Items.{is_ran, of_run}
-use Rattle.command_rules.specs.Rosters.{command_at, is_run, touches_from}
-use Rattle.history_book.proofs.Cited.{is_abort, put_all, stands_in}
-use Rattle.history_book.specs.Histories.{answers_in, entry, executed, more_if, reading}
-use Rattle.history_book.specs.Lines.{is_event_on}
-use Rattle.history_book.specs.Readings.{Event, First, Last, LogMark, OfRun, PlacedAt, Reading, did, events_of, is_access, nothing_read, is_committed, is_committing, is_live}
-use Rattle.history_book.specs.Settings.{Setting, is_weak}
-use Rattle.history_book.specs.declared.entries.Entry.TheVariants.{Arrived, Did, Doomed, Ended, Fell, Placed, Rose, Undid}
-use Rattle.history_book.specs.declared.entries.Entry.{Entry}
-use Rattle.std.proofs.lemmas.Bool.{both_ways, eq-eqb, or_left, or_right}
-use Rattle.std.proofs.lemmas.List.Folds.{list_all-append}
-use Rattle.history_book.specs.declared.entries.End.TheVariants.{Aborted, Committed}
-use Rattle.history_book.specs.declared.entries.End.{End}
-use Rattle.home_types.specs.HomeStates.{nowhere, stand_at}
-use Rattle.home_types.specs.declared.items.Item.TheVariants.{Back, Failed, Ran}
-use Rattle.home_types.specs.declared.items.Item.{Item}
+use Rattle.window_order.proofs.Prelude.{Aborted, Arrived, Back, Bool, Commands, Committed, Did, Doomed, End, Ended, Entry, Event, Failed, Fell, First, Grip, Grips, IsTrue, Item, Last, List, LogMark, None, OfRun, Option, OrderIsKept, Placed, PlacedAt, Probes, Purpose, Ran, Reading, Rose, Setting, SettledAgree, Some, Undid, Undoes, Write, [], answers_in, ap, arith, both_ways, command_at, committed_home, committed_value, committed_write, common_steps, cond, cons_option, count_by, did, effective_write, entry, eq-eqb, events_of, executed, false, filter, filter_map, fold, grips_undo, if◌then◌else◌, is_abort, is_access, is_committed, is_committing, is_event_on, is_in_line, is_late, is_live, is_none, is_ran, is_run, is_settled, is_some, is_undo, is_undone, is_weak, length, list_all, list_all-append, list_any, more_if, not, nothing_read, nowhere, of_run, option_map, option_or, or_left, or_right, point, put_all, reading, refl, settled_items, stand_at, standing_value, stands_in, subst, sym, touches_from, true, unwrap_or, write_of, ℕ, ◌&&◌, ◌++◌, ◌+◌, ◌<◌, ◌==◌, ◌||◌, ◌∙◌, ◌∷◌, ◌≡◌}
 use Rattle.home_types.specs.declared.worlds.Stand.{Stand}
-use Rattle.lock_leasing.specs.Configurations.{Grip, Grips, grips_undo, is_undo, point}
-use Rattle.lock_leasing.specs.declared.purposes.Purpose.TheVariants.{Commands, Probes, Undoes}
-use Rattle.lock_leasing.specs.declared.purposes.Purpose.{Purpose}
-use Rattle.lock_leasing.specs.Order.{SettledAgree, committed_home, committed_value, is_in_line, is_late, is_settled, settled_items}
-use Rattle.lock_leasing.specs.Words.{Write, committed_write, effective_write, is_undone, standing_value, write_of}
-use Rattle.std.proofs.Common.{ap, arith, refl, subst, sym, ◌∙◌}
-use Rattle.std.proofs.lemmas.Grind.{common_steps}
 use Rattle.std.proofs.lemmas.List.FromFn.{get_or-map-range_with_len, length-map-range_with_len}
-use Rattle.std.specs.List.{cons_option, list_all, list_any}
-use Rattle.std.specs.Option.{option_or}
-use Rattle.std.specs.Prelude.{◌+◌, ◌++◌, Bool, IsTrue, List, None, Option, Some, [], cond, count_by, false, filter, filter_map, fold, if◌then◌else◌, is_none, is_some, length, not, option_map, true, unwrap_or, ℕ, ◌&&◌, ◌<◌, ◌==◌, ◌||◌, ◌∷◌, ◌≡◌}
 use Rattle.window_order.proofs.ReadFacts.{IsRead}
 use Rattle.window_order.proofs.SettledOrders.{same_home, settled_agree}
-use Rattle.window_order.specs.OrderKept.{OrderIsKept}
 
 abbrev pub NoneIsLive : Reading → Type 0
 NoneIsLive n = (r : ℕ) → is_live n r ≡ false

@@ -1,5 +1,5 @@
 -- The window a-morning: many runs on many devices.
-use Rattle.home_types.specs.declared.commands.Guard.TheVariants.{Always}
+use Rattle.worked_windows.proofs.Prelude.{Always}
 use Rattle.worked_windows.proofs.Words.{Aborted, Absent, Arrived, At, Behind, Busy, Check, Commands, Committed, Did, Dirty, Doomed, Down, Ended, Entry, Eventual, Failed, Fcfs, Fell, Fine, Found, HandsOut, IsWorked, List, Load, Moves, None, Over, Placed, Ran, Range, Refuted, Set, Setting, Some, States, Table, Undid, Undoes, Waits, Worked, [], device_no, false, give, held, less, more, no_grips, points_from, refl, row, run_no, slice_set, split_at, split_of, still, true, words_along, ◌++◌, ◌∷◌, ◌≡◌}
 
 abbrev pub window : Setting

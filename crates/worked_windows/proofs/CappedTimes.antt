@@ -1,8 +1,7 @@
 -- Planned times and deadlines stay at the greatest number of 64 bits.
 use Rattle.history_book.specs.Gaps.{split_of}
-use Rattle.history_book.specs.Histories.{reading}
+use Rattle.worked_windows.proofs.Prelude.{Reading, reading}
 use Rattle.history_book.specs.Plans.{planned_end}
-use Rattle.history_book.specs.Readings.{Reading}
 use Rattle.lock_leasing.specs.Words.{lease_deadline}
 use Rattle.worked_windows.proofs.OneLight.{window}
 use Rattle.worked_windows.proofs.Words.{Arrived, Placed, [], refl, run_no, ◌∷◌, ◌≡◌}

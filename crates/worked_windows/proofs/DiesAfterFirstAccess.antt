@@ -1,5 +1,5 @@
 -- The window dies-after-first-access: a later command of a run dies with its device, and the run is lost.
-use Rattle.home_types.specs.declared.commands.Guard.TheVariants.{Always}
+use Rattle.worked_windows.proofs.Prelude.{Always}
 use Rattle.worked_windows.proofs.Words.{Aborted, Absent, Arrived, At, Busy, Commands, Did, Died, Doomed, Down, Ended, Entry, Eventual, Failed, Fcfs, Fell, Fine, HandsOut, IsWorked, List, Lost, Moves, None, Over, Placed, Ran, Set, Setting, Some, States, Table, Undid, Undoes, Waits, Worked, [], device_no, false, give, held, no_grips, refl, row, run_no, split_at, split_of, still, true, ◌∷◌}
 
 abbrev pub window : Setting

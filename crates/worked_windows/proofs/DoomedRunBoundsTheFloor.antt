@@ -1,5 +1,5 @@
 -- The window doomed-run-bounds-the-floor.
-use Rattle.home_types.specs.declared.commands.Guard.TheVariants.{Always}
+use Rattle.worked_windows.proofs.Prelude.{Always}
 use Rattle.worked_windows.proofs.Words.{Aborted, Absent, Arrived, At, Busy, Check, Commands, Did, Died, Doomed, Down, Ended, Entry, Failed, Fcfs, Fell, Found, HandsOut, IsWorked, List, Load, Moves, MustDown, None, Over, Partitioned, Placed, Ran, Range, Refuted, Sensed, Setting, Table, Waits, [], device_no, false, give, held, no_grips, refl, row, run_no, slice_set, split_at, split_of, still, true, ◌++◌, ◌∷◌}
 
 abbrev pub window : Setting

@@ -1,5 +1,5 @@
 -- The window doomed-run-is-not-waited-for.
-use Rattle.home_types.specs.declared.commands.Guard.TheVariants.{Always}
+use Rattle.worked_windows.proofs.Prelude.{Always}
 use Rattle.worked_windows.proofs.Words.{Aborted, Absent, Arrived, At, Busy, Commands, Did, Died, Doomed, Down, Ended, Entry, Eventual, Failed, Fell, HandsOut, IsWorked, List, Moves, MustDown, None, Over, Placed, Ran, Range, Set, Setting, Table, Timeline, Waits, [], chosen, closure, device_no, either_of, false, gap_set, give, held, no_grips, others, refl, row, run_no, slice_set, split_at, split_of, still, true, ◌++◌, ◌∷◌}
 
 abbrev pub window : Setting

@@ -1,5 +1,5 @@
 -- The window down-at-end: under a strict model, a device that a run has touched is down at its end.
-use Rattle.home_types.specs.declared.commands.Guard.TheVariants.{Always}
+use Rattle.worked_windows.proofs.Prelude.{Always}
 use Rattle.worked_windows.proofs.Words.{Aborted, Absent, Arrived, At, Busy, Commands, Did, Died, Doomed, DownAtEnd, Ended, Entry, Failed, Fcfs, Fell, Fine, HandsOut, IsWorked, List, Moves, None, Over, Partitioned, Placed, Probes, Ran, Set, Setting, Some, Table, Undid, Undoes, Waits, Worked, [], device_no, false, give, held, home_of_four, no_grips, refl, row, run_no, split_at, split_of, still, true, ◌∷◌}
 
 abbrev pub window : Setting

@@ -1,6 +1,6 @@
 -- A history with something altered.
 use Rattle.history_book.specs.declared.entries.Entry.{Entry}
-use Rattle.std.specs.Prelude.{List, [], drop, slice_set, take, ℕ, ◌++◌, ◌+◌, ◌∷◌}
+use Rattle.worked_windows.proofs.Prelude.{List, [], drop, slice_set, take, ℕ, ◌++◌, ◌+◌, ◌∷◌}
 
 -- the list with another entry at the place
 abbrev pub replaced : ℕ → Entry → List Entry → List Entry

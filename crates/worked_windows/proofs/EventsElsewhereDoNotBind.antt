@@ -1,5 +1,5 @@
 -- The window events-elsewhere-do-not-bind.
-use Rattle.home_types.specs.declared.commands.Guard.TheVariants.{Always}
+use Rattle.worked_windows.proofs.Prelude.{Always}
 use Rattle.worked_windows.proofs.Words.{Aborted, Absent, Arrived, At, Busy, Check, Commands, Committed, Did, Died, Doomed, Down, Ended, Entry, Failed, Fcfs, Fell, Found, HandsOut, IsWeaklyWorked, List, Moves, MustDown, None, Over, Placed, Ran, Range, Refuted, Sensed, Set, Setting, Waits, Weak, WeakTable, [], device_no, false, give, held, no_grips, refl, row, run_no, slice_set, split_at, split_of, still, true, ◌++◌, ◌∷◌}
 
 abbrev pub window : Setting

@@ -5,18 +5,13 @@ use Rattle.command_rules.specs.Apart.{meet}
 use Rattle.command_rules.specs.ClosedSets.{are_apart, exchanged}
 use Rattle.exchange_laws.proofs.Cited.{legal_exchanged, legal_itself}
 use Rattle.exchange_laws.specs.ExchangedOrders.{IsLegalUpToExchanges, with_order}
-use Rattle.history_book.specs.Histories.{kept_by, line_of, reading}
+use Rattle.worked_windows.proofs.Prelude.{Item, List, MayBeOut, [], arith, drop, kept_by, line_of, point, reading, refl, take, true, ◌++◌, ◌∷◌, ◌≡◌}
 use Rattle.history_book.specs.declared.records.WindowRecord.{WindowRecord}
-use Rattle.home_types.specs.declared.items.Item.{Item}
 use Rattle.legal_days.specs.AccountedCalls.{CallsAreAccounted}
 use Rattle.legal_days.specs.Agreement.{AgreesWithSerial}
 use Rattle.legal_days.specs.LegalWindows.{IsLegalWindow}
 use Rattle.legal_days.specs.Orders.{IsOrderFor}
-use Rattle.lock_leasing.specs.Configurations.{point}
-use Rattle.lock_leasing.specs.Places.{MayBeOut}
-use Rattle.std.proofs.Common.{arith}
 use Rattle.std.proofs.lemmas.Grind.{common_steps}
-use Rattle.std.specs.Prelude.{List, [], drop, refl, take, true, ◌++◌, ◌∷◌, ◌≡◌}
 use Rattle.worked_windows.proofs.Words.{Ran, no_grips, run_no, split_of}
 
 -- four entries of each run

@@ -89,17 +89,12 @@ unfoldable use Rattle.command_rules.specs.ClosedSets.{exchanged}
 use Rattle.command_rules.specs.ClosedSets.{are_apart}
 use Rattle.command_rules.specs.Items.{is_ran}
 use Rattle.command_rules.specs.Rosters.{follows}
-use Rattle.history_book.specs.Histories.{answers_in, executed, reading}
+use Rattle.worked_windows.proofs.Prelude.{Bool, Grips, Item, List, Reading, [], answers_in, count_by, events_of, executed, false, filter, fold, if◌then◌else◌, in_order, is_committed, length, not, reading, true, ℕ, ◌&&◌, ◌++◌, ◌+◌, ◌==◌, ◌||◌, ◌∷◌, ◌≡◌}
 use Rattle.history_book.specs.Lines.{behind, is_event_on}
-use Rattle.history_book.specs.Readings.{Reading, events_of, is_committed}
 use Rattle.history_book.specs.Settings.{Setting, device_numbers, run_numbers}
 use Rattle.history_book.specs.declared.entries.Entry.{Entry}
-use Rattle.home_types.specs.declared.items.Item.{Item}
 use Rattle.home_types.specs.declared.worlds.Stand.{Stand}
-use Rattle.lock_leasing.specs.Configurations.{Grips}
-use Rattle.lock_leasing.specs.Places.{in_order}
 use Rattle.std.specs.List.{list_all, list_any, range_with_len}
-use Rattle.std.specs.Prelude.{Bool, List, [], count_by, false, filter, fold, if◌then◌else◌, length, not, true, ℕ, ◌&&◌, ◌++◌, ◌+◌, ◌==◌, ◌||◌, ◌∷◌, ◌≡◌}
 use Rattle.worked_windows.proofs.Points.{clauses_of_history, clauses_of_line}
 use Rattle.worked_windows.proofs.Tables.{Table, reading_at, same_clauses, same_execution, same_item}
 use Rattle.worked_windows.proofs.Words.{chosen, closure, either_of, gap_set, no_grips, others, refl, split_of}

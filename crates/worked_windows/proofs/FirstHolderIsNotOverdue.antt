@@ -1,5 +1,5 @@
 -- The window first-holder-is-not-overdue.
-use Rattle.home_types.specs.declared.commands.Guard.TheVariants.{Always}
+use Rattle.worked_windows.proofs.Prelude.{Always}
 use Rattle.worked_windows.proofs.Words.{Aborted, Absent, Arrived, At, Back, Behind, Busy, Commands, Committed, Did, Died, Doomed, Down, Ended, Entry, Eventual, Failed, Fell, Fine, Found, HandsOut, IsWorked, JustInTime, List, Load, Moves, MustDown, None, Over, Placed, Probes, Ran, Range, Revoked, Rose, Sensed, Set, Setting, Some, Table, Waits, Worked, [], device_no, false, give, held, less, more, no_grips, refl, row, run_no, slice_set, split_at, split_of, still, true, ◌∷◌}
 
 abbrev pub window : Setting

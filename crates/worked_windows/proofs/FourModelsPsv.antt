@@ -1,5 +1,5 @@
 -- The window four-models-psv: three runs under the partitioned model.
-use Rattle.home_types.specs.declared.commands.Guard.TheVariants.{Always}
+use Rattle.worked_windows.proofs.Prelude.{Always}
 use Rattle.worked_windows.proofs.Words.{Absent, Arrived, At, Behind, Busy, Commands, Committed, Did, Ended, Entry, Fcfs, Fine, HandsOut, IsWorked, List, Moves, None, Over, Partitioned, Placed, Ran, Set, Setting, Some, Strict, Table, Waits, Worked, [], device_no, give, held, home_of_four, less, more, no_grips, refl, row, run_no, slice_set, split_at, split_of, still, true, ◌++◌, ◌∷◌}
 
 abbrev pub window : Setting

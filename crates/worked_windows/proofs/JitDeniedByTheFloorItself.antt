@@ -1,5 +1,5 @@
 -- The window jit-denied-by-the-floor-itself.
-use Rattle.home_types.specs.declared.commands.Guard.TheVariants.{Always}
+use Rattle.worked_windows.proofs.Prelude.{Always}
 use Rattle.worked_windows.proofs.Words.{Aborted, Absent, Arrived, At, Busy, Commands, Committed, Denied, DeniedBy, Did, Died, Doomed, Down, Ended, Entry, Eventual, Failed, Fell, Fine, HandsOut, IsWorked, JustInTime, List, Moves, MustDown, None, Over, Placed, Ran, Range, Set, Setting, Some, Table, Waits, Worked, [], device_no, false, give, held, less, more, no_grips, refl, row, run_no, slice_set, split_at, split_of, still, true, ◌++◌, ◌∷◌}
 
 abbrev pub window : Setting

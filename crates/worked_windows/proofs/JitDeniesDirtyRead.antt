@@ -1,5 +1,5 @@
 -- The window jit-denies-dirty-read: just-in-time: a run that would read a live write is denied.
-use Rattle.home_types.specs.declared.commands.Guard.TheVariants.{Always}
+use Rattle.worked_windows.proofs.Prelude.{Always}
 use Rattle.worked_windows.proofs.Words.{Absent, Arrived, At, Busy, Commands, Committed, Denied, DeniedBy, Did, Ended, Entry, Eventual, Fine, Found, HandsOut, IsWorked, JustInTime, List, Load, Moves, None, Over, Placed, Ran, Range, Sensed, Set, Setting, Some, States, Table, Waits, Worked, [], device_no, give, held, no_grips, refl, row, run_no, slice_set, split_at, split_of, still, true, ◌∷◌}
 
 abbrev pub window : Setting

@@ -1,5 +1,5 @@
 -- The window jit-patience-puts-at-the-end.
-use Rattle.home_types.specs.declared.commands.Guard.TheVariants.{Always}
+use Rattle.worked_windows.proofs.Prelude.{Always}
 use Rattle.worked_windows.proofs.Words.{Aborted, Absent, Arrived, At, Behind, Busy, Check, Commands, Committed, Did, Doomed, Ended, Entry, Eventual, Fine, Found, HandsOut, IsWorked, JustInTime, List, Moves, None, Over, Placed, Ran, Range, Refuted, Revoked, Sensed, Set, Setting, Some, Store, Table, Undid, Undoes, Waits, Worked, [], device_no, give, held, less, more, no_grips, refl, row, run_no, slice_set, split_at, split_of, still, true, ◌++◌, ◌∷◌}
 
 abbrev pub window : Setting

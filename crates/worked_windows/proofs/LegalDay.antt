@@ -1,26 +1,20 @@
 -- A day of two windows that is legal, put together whole: in the first the light fails when its run is done with it, in the second
 -- it comes back and is turned off.
-use Rattle.home_types.specs.declared.commands.Guard.TheVariants.{Always}
+use Rattle.worked_windows.proofs.Prelude.{Always, Item, List, MayBeOut, None, Some, [], arith, codes, drop, kept_by, point, reading, refl, slice_get, subst, suc, take, true, zero, ℕ, ⊤, ◌++◌, ◌∷◌, ◌≡◌}
 use Rattle.worked_windows.proofs.LegalWindow as first_window
 use Rattle.device_states.specs.Devices.{Shown}
-use Rattle.history_book.specs.Histories.{kept_by, reading}
 use Rattle.history_book.specs.declared.records.WindowRecord.{WindowRecord}
 use Rattle.home_types.specs.HomeStates.{stand_at}
-use Rattle.home_types.specs.declared.items.Item.{Item}
 use Rattle.home_types.specs.declared.modes.Mode.{Mode}
 use Rattle.legal_days.specs.AccountedCalls.{CallsAreAccounted}
 use Rattle.legal_days.specs.Agreement.{AgreesWithSerial}
 use Rattle.legal_days.specs.LegalDays.{DevicesAreLeft, IsDeviceOf, IsLegalDay, RecordsAreLegal, setting_of, total}
 use Rattle.legal_days.specs.LegalWindows.{IsLegalWindow}
 use Rattle.legal_days.specs.Orders.{IsOrderFor}
-use Rattle.lock_leasing.specs.Configurations.{point}
-use Rattle.lock_leasing.specs.Places.{MayBeOut}
 use Rattle.routine_reader.specs.declared.scripts.DeviceText.{DeviceText}
 use Rattle.routine_reader.specs.declared.scripts.Script.{Script}
 use Rattle.routine_reader.specs.declared.scripts.WindowText.{WindowText}
-use Rattle.std.proofs.Common.{arith, subst}
 use Rattle.std.proofs.lemmas.Grind.{common_steps}
-use Rattle.std.specs.Prelude.{List, None, Some, [], codes, drop, refl, slice_get, suc, take, true, zero, ℕ, ⊤, ◌++◌, ◌∷◌, ◌≡◌}
 use Rattle.worked_windows.proofs.Words.{Arrived, Back, Committed, Did, Ended, Entry, Eventual, Fcfs, Fine, Placed, Ran, Range, Rose, Set, Setting, States, device_no, no_grips, run_no, split_of}
 
 -- The script

@@ -1,17 +1,13 @@
 -- A window's record that is legal, put together whole.
 use Rattle.worked_windows.proofs.FailureAfterLastAccess as worked
-use Rattle.history_book.specs.Histories.{kept_by, reading}
+use Rattle.worked_windows.proofs.Prelude.{List, MayBeOut, [], arith, drop, false, kept_by, point, reading, refl, take, true, ◌++◌, ◌∷◌}
 use Rattle.history_book.specs.declared.entries.Kept.{Kept}
 use Rattle.history_book.specs.declared.records.WindowRecord.{WindowRecord}
 use Rattle.legal_days.specs.AccountedCalls.{CallsAreAccounted}
 use Rattle.legal_days.specs.Agreement.{AgreesWithSerial}
 use Rattle.legal_days.specs.LegalWindows.{IsLegalWindow}
 use Rattle.legal_days.specs.Orders.{IsOrderFor}
-use Rattle.lock_leasing.specs.Configurations.{point}
-use Rattle.lock_leasing.specs.Places.{MayBeOut}
-use Rattle.std.proofs.Common.{arith}
 use Rattle.std.proofs.lemmas.Grind.{common_steps}
-use Rattle.std.specs.Prelude.{List, [], drop, false, refl, take, true, ◌++◌, ◌∷◌}
 use Rattle.worked_windows.proofs.Words.{Eventual, Fcfs, no_grips, split_of}
 
 -- the failure is the detector's, all else the run's

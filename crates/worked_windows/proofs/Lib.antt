@@ -1,4 +1,5 @@
 mod Points
+mod Prelude
 mod Tables
 mod Words
 mod SameClauses

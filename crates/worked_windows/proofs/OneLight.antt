@@ -1,5 +1,5 @@
 -- The window one-light: one run sets one lamp.
-use Rattle.home_types.specs.declared.commands.Guard.TheVariants.{Always}
+use Rattle.worked_windows.proofs.Prelude.{Always}
 use Rattle.worked_windows.proofs.Words.{Absent, Arrived, At, Busy, Commands, Committed, Did, Ended, Entry, Eventual, Fcfs, Fine, HandsOut, IsWorked, List, Moves, None, Over, Placed, Ran, Set, Setting, Some, States, Table, Waits, Worked, [], device_no, give, held, no_grips, refl, row, run_no, split_at, split_of, still, true, ◌∷◌}
 
 abbrev pub window : Setting

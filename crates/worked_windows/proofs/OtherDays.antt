@@ -5,8 +5,7 @@ use Rattle.history_book.specs.Gaps.{split_of}
 use Rattle.history_book.specs.declared.records.WindowRecord.{WindowRecord}
 use Rattle.home_types.specs.HomeStates.{stand_at}
 use Rattle.legal_days.specs.LegalDays.{IsLegalDay}
-use Rattle.std.proofs.Common.{ap}
-use Rattle.std.specs.Prelude.{List, Some, [], drop, length, refl, ◌∷◌}
+use Rattle.worked_windows.proofs.Prelude.{List, Some, [], ap, drop, length, refl, ◌∷◌}
 use Rattle.worked_windows.proofs.LegalDay.{closed, devices, light, light_left, mode, records, script}
 use Rattle.worked_windows.proofs.OtherRecords.{differ}
 

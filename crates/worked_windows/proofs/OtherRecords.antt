@@ -13,10 +13,8 @@ use Rattle.home_types.specs.declared.commands.Answer.{Answer}
 use Rattle.legal_days.specs.AccountedCalls.{CallsAreAccounted}
 use Rattle.legal_days.specs.Agreement.{AgreesWithSerial}
 use Rattle.legal_days.specs.Orders.{IsOrderFor}
-use Rattle.lock_leasing.specs.Places.{At, DeniedBy, PlacesAreScheduled, Placing}
-use Rattle.std.proofs.Common.{ap, arith}
+use Rattle.worked_windows.proofs.Prelude.{At, DeniedBy, List, PlacesAreScheduled, Placing, [], ap, arith, false, length, refl, true, ℕ, ◌==◌, ◌∷◌, ◌≡◌, ◌≤◌}
 use Rattle.std.proofs.lemmas.Grind.{common_steps}
-use Rattle.std.specs.Prelude.{List, [], false, length, refl, true, ℕ, ◌==◌, ◌∷◌, ◌≡◌, ◌≤◌}
 use Rattle.worked_windows.proofs.Edits.{replaced}
 use Rattle.worked_windows.proofs.Words.{Back, Did, Down, Failed, Fine, Found, Placed, Ran, Skipped, Undid, device_no, run_no, split_of}
 

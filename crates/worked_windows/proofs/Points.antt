@@ -1,22 +1,17 @@
 -- All words at one point of a history, to be compared with values that were found elsewhere.
 use Rattle.command_rules.specs.Serial.{SerialRun}
-use Rattle.history_book.specs.Histories.{answers_in, executed}
+use Rattle.worked_windows.proofs.Prelude.{Bool, Grips, Item, List, Option, Placing, Reading, answers_in, executed, false, filter, first_place, is_doomed, is_event, is_none, is_some, map, not, point, scheduled_place, sees_up, span_of, true, ℕ, ◌&&◌, ◌||◌, ◌∷◌}
 use Rattle.history_book.specs.Plans.{planned_end, planned_start, whole_end}
-use Rattle.history_book.specs.Readings.{Reading, is_doomed, is_event, sees_up, span_of}
 use Rattle.history_book.specs.Settings.{Setting, device_numbers, devices_of, is_strict, run_numbers}
 use Rattle.history_book.specs.WellFormed.{each_entry, is_well_formed}
 use Rattle.history_book.specs.declared.entries.Entry.{Entry}
-use Rattle.home_types.specs.declared.items.Item.{Item}
 use Rattle.hub_core.specs.Steps.{Choice, decide}
 use Rattle.legal_days.specs.CleanReads.{entry_is_clean}
 use Rattle.legal_days.specs.Isolation.{is_isolated}
 use Rattle.legal_days.specs.JustifiedAborts.{abort_is_justified}
-use Rattle.lock_leasing.specs.Configurations.{Grips, point}
 use Rattle.lock_leasing.specs.Order.{committed_home, firsts_of_line, firsts_of_log, is_in_line, live_writes_are_covered, marks_of_line, marks_of_log, open_runs_are_last, settled_items}
-use Rattle.lock_leasing.specs.Places.{Placing, first_place, scheduled_place}
 use Rattle.lock_leasing.specs.Words.{effective_writer_of, has_touched, holds_device, live_runs, overdue_for, standing_value}
 use Rattle.std.specs.List.{list_all, list_any}
-use Rattle.std.specs.Prelude.{Bool, List, Option, false, filter, is_none, is_some, map, not, true, ℕ, ◌&&◌, ◌||◌, ◌∷◌}
 
 -- of the line and of each device; then of the runs that wait for a place, of the live runs, and what `take` does for each run and for 0
 pub record Words : Type 0 where

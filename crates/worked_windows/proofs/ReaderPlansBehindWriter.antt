@@ -1,5 +1,5 @@
 -- The window reader-plans-behind-writer: timeline: the plan of a run that reads waits for the whole planned end of a writer before it.
-use Rattle.home_types.specs.declared.commands.Guard.TheVariants.{Always}
+use Rattle.worked_windows.proofs.Prelude.{Always}
 use Rattle.worked_windows.proofs.Words.{Absent, Arrived, At, Busy, Commands, Committed, Did, Dirty, Ended, Entry, Eventual, Fine, Found, HandsOut, IsWorked, List, Load, Moves, None, Over, Placed, Ran, Range, Sensed, Set, Setting, Some, States, Table, Timeline, Waits, Worked, [], chosen, closure, device_no, either_of, gap_set, give, held, more, no_grips, others, refl, row, run_no, slice_set, split_at, split_of, still, true, ◌∷◌}
 
 abbrev pub window : Setting

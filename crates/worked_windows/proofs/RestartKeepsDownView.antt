@@ -1,5 +1,5 @@
 -- The window restart-keeps-down-view: a run that saw a device down goes on seeing it so.
-use Rattle.home_types.specs.declared.commands.Guard.TheVariants.{Always}
+use Rattle.worked_windows.proofs.Prelude.{Always}
 use Rattle.worked_windows.proofs.Words.{Absent, Arrived, At, Back, Busy, Commands, Committed, Did, Died, Down, Ended, Entry, Eventual, Failed, Fcfs, Fell, Fine, HandsOut, IsWorked, List, Moves, None, Over, Placed, Probes, Ran, Rose, Set, Setting, Some, Table, Waits, Worked, [], device_no, false, give, held, home_of_four, no_grips, refl, row, run_no, split_at, split_of, still, true, ◌++◌, ◌∷◌}
 
 abbrev pub window : Setting

@@ -1,16 +1,13 @@
 -- The tests of `Tables` are true of equal ones alone: where they hold along a window's rows, the four clauses hold at each row's point.
 use Rattle.command_rules.specs.Serial.{SerialRun, Served}
-use Rattle.history_book.specs.Readings.{same_answer}
+use Rattle.worked_windows.proofs.Prelude.{Bool, IfSome, Item, List, [], arith, false, refl, same_answer, slice_get, suc, true, zero, ℕ, ◌∷◌, ◌≡◌}
 use Rattle.history_book.specs.Settings.{Setting}
 use Rattle.history_book.specs.declared.entries.Entry.{Entry}
 use Rattle.home_types.specs.declared.commands.Answer.TheVariants.{Down, Fine, Found, Skipped}
 use Rattle.home_types.specs.declared.commands.Answer.{Answer}
 use Rattle.home_types.specs.declared.items.Item.TheVariants.{Back, Failed, Ran}
-use Rattle.home_types.specs.declared.items.Item.{Item}
 use Rattle.home_types.specs.declared.worlds.Stand.{Stand}
-use Rattle.std.proofs.Common.{arith, suc, zero}
 use Rattle.std.proofs.lemmas.Grind.{common_steps}
-use Rattle.std.specs.Prelude.{Bool, IfSome, List, [], slice_get, false, refl, true, ℕ, ◌∷◌, ◌≡◌}
 use Rattle.worked_windows.proofs.Points.{Clauses, clauses_of_history, clauses_of_line}
 use Rattle.worked_windows.proofs.Tables.{Row, clauses_hold, reading_at, same_clauses, same_execution, same_flag, same_item, same_number, same_served, same_stand}
 use lib.Pointwise.{pointwise}

@@ -1,5 +1,5 @@
 -- The window skipped-and-down-at-end: under a strict model a device on which a best-effort command was answered Down is an access, and down at the end.
-use Rattle.home_types.specs.declared.commands.Guard.TheVariants.{Always}
+use Rattle.worked_windows.proofs.Prelude.{Always}
 use Rattle.worked_windows.proofs.Words.{Aborted, Absent, Arrived, At, Busy, Commands, Did, Died, Doomed, Down, DownAtEnd, Ended, Entry, Failed, Fcfs, Fell, Fine, HandsOut, IsWorked, List, Moves, None, Over, Partitioned, Placed, Ran, Set, Setting, Some, States, Table, Undid, Undoes, Waits, Worked, [], device_no, false, give, held, no_grips, refl, row, run_no, split_at, split_of, still, true, ◌∷◌}
 
 abbrev pub window : Setting

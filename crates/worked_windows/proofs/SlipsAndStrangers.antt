@@ -2,9 +2,8 @@
 -- taken back, and any other one is a stranger: it is refused with the slip that is kept and the slip that it told.
 use Rattle.device_gate.specs.declared.slips.Slip.{Slip}
 use Rattle.device_gate.specs.declared.slips.Task.TheVariants.{Drive, Probe, Sense}
-use Rattle.history_book.specs.Histories.{kept_by}
+use Rattle.worked_windows.proofs.Prelude.{None, Some, [], kept_by, refl, take, ◌∷◌, ◌≡◌}
 use Rattle.hub_core.specs.HubSteps.{Carried, Gave, HubState, Refused, give, give_probe, take as take_step, take_probe}
-use Rattle.std.specs.Prelude.{None, Some, [], refl, take, ◌∷◌, ◌≡◌}
 use Rattle.worked_windows.proofs.LeaseOverdue.{history, window}
 use Rattle.worked_windows.proofs.Words.{Commands, Did, Died, Fell, Fine, HandsOut, Worked, device_no, no_grips, run_no, split_of}
 

@@ -1,5 +1,5 @@
 -- The window store-and-load: a run reads its own write, and stores what it read.
-use Rattle.home_types.specs.declared.commands.Guard.TheVariants.{Always}
+use Rattle.worked_windows.proofs.Prelude.{Always}
 use Rattle.worked_windows.proofs.Words.{Absent, Arrived, At, Busy, Commands, Committed, Did, Ended, Entry, Eventual, Fcfs, Fine, Found, HandsOut, IsWorked, List, Load, Moves, None, Over, Placed, Ran, Sensed, Setting, Some, Store, Table, Waits, Worked, [], device_no, give, held, home_of_four, no_grips, refl, row, run_no, split_at, split_of, still, true, ◌∷◌}
 
 abbrev pub window : Setting

@@ -1,5 +1,5 @@
 -- The window strict-read-waits: a run that reads waits under a strict model.
-use Rattle.home_types.specs.declared.commands.Guard.TheVariants.{Always}
+use Rattle.worked_windows.proofs.Prelude.{Always}
 use Rattle.worked_windows.proofs.Words.{Absent, Arrived, At, Behind, Busy, Commands, Committed, Did, Dirty, Ended, Entry, Fcfs, Fine, Found, Global, HandsOut, IsWorked, List, Load, Moves, None, Over, Placed, Ran, Sensed, Set, Setting, Some, Table, Waits, Worked, [], device_no, give, held, home_of_four, more, no_grips, refl, row, run_no, slice_set, split_at, split_of, still, true, ◌∷◌}
 
 abbrev pub window : Setting

@@ -1,5 +1,5 @@
 -- The window strict-while-probed: under a strict model a run waits for the run before it, and only then for a probe.
-use Rattle.home_types.specs.declared.commands.Guard.TheVariants.{Always}
+use Rattle.worked_windows.proofs.Prelude.{Always}
 use Rattle.worked_windows.proofs.Words.{Absent, Arrived, At, Busy, Commands, Committed, Did, Ended, Entry, Fcfs, Fine, Global, HandsOut, IsWorked, List, Moves, None, Over, Placed, Probes, Ran, Set, Setting, Some, States, Strict, Table, Waits, Worked, [], device_no, give, held, no_grips, refl, row, run_no, slice_set, split_at, split_of, still, true, ◌∷◌}
 
 abbrev pub window : Setting

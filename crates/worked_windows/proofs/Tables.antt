@@ -2,13 +2,11 @@
 -- point before; then each step back, the calls, and the order. `IsWorked` is what holds of a window's table.
 use Rattle.command_rules.specs.Serial.{SerialRun, Served}
 use Rattle.device_gate.specs.declared.slips.Told.{Told}
-use Rattle.history_book.specs.Histories.{answers_in, executed, reading}
-use Rattle.history_book.specs.Readings.{Reading, put, same_answer}
+use Rattle.worked_windows.proofs.Prelude.{Bool, Grip, Grips, Item, List, Reading, Some, [], answers_in, drop, executed, false, map, not, put, reading, same_answer, take, true, ℕ, ◌&&◌, ◌++◌, ◌+◌, ◌==◌, ◌∷◌, ◌≡◌}
 use Rattle.history_book.specs.Settings.{Setting, device_numbers}
 use Rattle.history_book.specs.WellFormed.{each_entry, is_well_formed}
 use Rattle.history_book.specs.declared.entries.Entry.{Entry}
 use Rattle.home_types.specs.declared.items.Item.TheVariants.{Back, Failed, Ran}
-use Rattle.home_types.specs.declared.items.Item.{Item}
 use Rattle.home_types.specs.declared.kinds.Kind.TheVariants.{Range, States}
 use Rattle.home_types.specs.declared.modes.Scheduler.TheVariants.{Fcfs}
 use Rattle.home_types.specs.declared.modes.Visibility.TheVariants.{Eventual}
@@ -16,10 +14,8 @@ use Rattle.home_types.specs.declared.worlds.Stand.{Stand}
 use Rattle.hub_core.specs.Steps.{give_entries}
 use Rattle.legal_days.specs.AccountedCalls.{told_calls}
 use Rattle.legal_days.specs.LegalWindows.{all_ended, weakly_allowed}
-use Rattle.lock_leasing.specs.Configurations.{Grip, Grips}
 use Rattle.lock_leasing.specs.declared.purposes.Purpose.{Purpose}
 use Rattle.std.specs.List.{list_all}
-use Rattle.std.specs.Prelude.{Bool, List, Some, [], drop, false, map, not, take, true, ℕ, ◌&&◌, ◌++◌, ◌+◌, ◌==◌, ◌∷◌, ◌≡◌}
 use Rattle.worked_windows.proofs.Points.{Clauses, Words, clauses_of_history, clauses_of_line, verdict, words_at}
 use lib.Pointwise.{pointwise}
 

@@ -1,5 +1,5 @@
 -- The window timeline-gap-fits: timeline: a run is placed before another, in a gap of its plan that is just long enough.
-use Rattle.home_types.specs.declared.commands.Guard.TheVariants.{Always}
+use Rattle.worked_windows.proofs.Prelude.{Always}
 use Rattle.worked_windows.proofs.Words.{Absent, Arrived, At, Busy, Commands, Committed, Did, Ended, Entry, Eventual, Fine, HandsOut, IsWorked, List, Moves, None, Over, Placed, Ran, Set, Setting, Some, Table, Timeline, Waits, Worked, [], chosen, closure, device_no, either_of, gap_set, give, held, home_of_four, more, no_grips, others, refl, row, run_no, slice_set, split_at, split_of, still, true, ◌∷◌}
 
 abbrev pub window : Setting

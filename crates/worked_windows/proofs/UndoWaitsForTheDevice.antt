@@ -1,5 +1,5 @@
 -- The window undo-waits-for-the-device.
-use Rattle.home_types.specs.declared.commands.Guard.TheVariants.{Always}
+use Rattle.worked_windows.proofs.Prelude.{Always}
 use Rattle.worked_windows.proofs.Words.{Aborted, Absent, Arrived, At, Behind, Busy, Commands, Did, Died, Dirty, Doomed, Down, Ended, Entry, Eventual, Failed, Fcfs, Fell, Fine, HandsOut, IsWorked, List, Load, Moves, MustDown, None, Over, Placed, Probes, Ran, Range, Setting, Some, States, Store, Table, Undid, Waits, Worked, [], device_no, false, give, held, less, more, no_grips, refl, row, run_no, slice_set, split_at, split_of, still, true, ◌∷◌}
 
 abbrev pub window : Setting

@@ -1,5 +1,5 @@
 -- The window weak-dies-again: under the weak model a run may see a device down, then up, then dead, and a dead later access is not a loss.
-use Rattle.home_types.specs.declared.commands.Guard.TheVariants.{Always}
+use Rattle.worked_windows.proofs.Prelude.{Always}
 use Rattle.worked_windows.proofs.Words.{Absent, Arrived, At, Back, Busy, Commands, Committed, Did, Died, Doomed, Down, Ended, Entry, Failed, Fcfs, Fell, Fine, HandsOut, IsWeaklyWorked, List, Moves, MustDown, None, Over, Placed, Probes, Ran, Rose, Set, Setting, Some, States, Waits, Weak, WeakTable, Worked, [], device_no, false, give, held, no_grips, refl, row, run_no, split_at, split_of, still, true, ◌++◌, ◌∷◌}
 
 abbrev pub window : Setting

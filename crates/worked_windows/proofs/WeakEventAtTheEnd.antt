@@ -1,5 +1,5 @@
 -- The window weak-event-at-the-end.
-use Rattle.home_types.specs.declared.commands.Guard.TheVariants.{Always}
+use Rattle.worked_windows.proofs.Prelude.{Always}
 use Rattle.worked_windows.proofs.Words.{Aborted, Absent, Arrived, At, Busy, Check, Commands, Did, Died, Doomed, Down, Ended, Entry, Failed, Fcfs, Fell, HandsOut, IsWeaklyWorked, List, Moves, MustDown, None, Over, Placed, Ran, Range, Setting, Waits, Weak, WeakTable, [], device_no, false, give, held, no_grips, refl, row, run_no, split_at, split_of, still, true, ◌∷◌}
 
 abbrev pub window : Setting

@@ -1,5 +1,5 @@
 -- The window weak-reads-live-writer: under the weak model a run reads what a live one wrote.
-use Rattle.home_types.specs.declared.commands.Guard.TheVariants.{Always}
+use Rattle.worked_windows.proofs.Prelude.{Always}
 use Rattle.worked_windows.proofs.Words.{Aborted, Absent, Arrived, At, Busy, Check, Commands, Committed, Did, Doomed, Ended, Entry, Fcfs, Fine, Found, HandsOut, IsWeaklyWorked, List, Load, Moves, None, Over, Placed, Ran, Range, Refuted, Sensed, Set, Setting, Some, States, Waits, Weak, WeakTable, Worked, [], device_no, give, held, more, no_grips, refl, row, run_no, slice_set, split_at, split_of, still, true, ◌∷◌}
 
 abbrev pub window : Setting

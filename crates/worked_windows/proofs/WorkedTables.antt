@@ -1,6 +1,6 @@
 -- Lineage tables of worked windows with a doomed run or a skipped command: at each point the table that represents the configuration,
 -- put together whole, and altered tables that do not. A table's values were found by the rule and, apart from it, by the calls of a table kept elsewhere.
-use Rattle.home_types.specs.declared.commands.Guard.TheVariants.{Always}
+use Rattle.worked_windows.proofs.Prelude.{Always, Bool, Grips, List, None, Option, Reading, Some, [], ap, arith, false, if◌then◌else◌, is_doomed, length, map, no_grips, option_map, point, put, reading, refl, subst, suc, sym, take, true, view_of, zero, ℕ, ◌<◌, ◌∷◌, ◌≡◌}
 use Rattle.worked_windows.proofs.FailurePassesDoomedRun as failure_passes_doomed_run
 use Rattle.worked_windows.proofs.LeaseOverdue as lease_overdue
 use Rattle.worked_windows.proofs.LostBetweenAccesses as lost_between_accesses
@@ -11,23 +11,18 @@ use Rattle.worked_windows.proofs.SkippedUnderLiveUndo as skipped_under_live_undo
 use Rattle.worked_windows.proofs.UndoDies as undo_dies
 use Rattle.worked_windows.proofs.UndoDrivesLiveWriter as undo_drives_live_writer
 use Rattle.history_book.specs.Gaps.{split_of}
-use Rattle.history_book.specs.Histories.{reading}
 use Rattle.history_book.specs.Plans.{planned_end, planned_start}
-use Rattle.history_book.specs.Readings.{Reading, is_doomed, put, view_of}
 use Rattle.home_types.specs.declared.commands.View.TheVariants.{Down, Up}
 use Rattle.home_types.specs.declared.commands.View.{View}
 use Rattle.lineage_table.specs.Accesses.{is_acquired}
 use Rattle.lineage_table.specs.Lineages.{LineageState, lineage_at}
 use Rattle.lineage_table.specs.declared.accesses.Access.{Access}
 use Rattle.lineage_table.specs.declared.accesses.Status.TheVariants.{Acquired, Released, Scheduled}
-use Rattle.lock_leasing.specs.Configurations.{Grips, no_grips, point}
 use Rattle.lock_leasing.specs.declared.purposes.Purpose.TheVariants.{Commands, Undoes}
 use Rattle.lock_leasing.specs.declared.purposes.Purpose.{Purpose}
 use Rattle.lock_leasing.specs.Order.{committed_value}
 use Rattle.lock_leasing.specs.Tables.{EachTellsOfRun, IsLineageOf, Represents, TellsOfRun, may_be_passed, runs_with_access, some_in_use, status_by_answers, view_when}
 use Rattle.lock_leasing.specs.Words.{has_touched, is_undone, overdue_for}
-use Rattle.std.proofs.Common.{ap, arith, subst, sym}
-use Rattle.std.specs.Prelude.{Bool, List, None, Option, Some, [], false, if◌then◌else◌, length, map, option_map, refl, suc, take, true, zero, ℕ, ◌<◌, ◌∷◌, ◌≡◌}
 use Rattle.worked_windows.proofs.OtherRecords.{differ}
 use Rattle.worked_windows.proofs.Words.{Arrived, Did, Doomed, Entry, Fine, Placed, Revoked, Set, Setting, device_no, run_no}
 

@@ -1,5 +1,5 @@
 -- The window writer-first-does-not-wait.
-use Rattle.home_types.specs.declared.commands.Guard.TheVariants.{Always}
+use Rattle.worked_windows.proofs.Prelude.{Always}
 use Rattle.worked_windows.proofs.Words.{Aborted, Absent, Arrived, At, Behind, Busy, Check, Commands, Committed, Did, Died, Doomed, Down, Ended, Entry, Eventual, Failed, Fell, Fine, Found, HandsOut, IsWorked, List, Load, Moves, MustDown, None, Over, Placed, Ran, Range, Sensed, Set, Setting, Some, States, Store, Table, Timeline, Waits, Worked, [], chosen, closure, device_no, either_of, false, gap_set, give, held, less, more, no_grips, others, refl, row, run_no, slice_set, split_at, split_of, still, true, ◌++◌, ◌∷◌}
 
 abbrev pub window : Setting

@@ -1,33 +1,10 @@
 -- The call of a run died: what the code writes of it, and that what is kept stays so.
-use Rattle.command_rules.specs.Rosters.{command_at, commands_of, is_run, run_no}
-use Rattle.device_gate.specs.Calls.{has_died}
-use Rattle.device_gate.specs.Grips.{Gripped}
-use Rattle.device_gate.specs.declared.grips.Done.{Done}
-use Rattle.device_gate.specs.declared.slips.Slip.{Slip}
-use Rattle.device_gate.specs.declared.slips.Told.TheVariants.{Died, Sensed, Worked}
-use Rattle.device_gate.specs.declared.slips.Told.{Told}
-use Rattle.device_states.specs.Devices.{Shown}
-use Rattle.history_book.proofs.Cited.{MayTake, put_other, takes_first, takes_rest}
-use Rattle.history_book.specs.Histories.{entries_of, entry, kept_by}
-use Rattle.history_book.specs.ReadHistories.{HistoryState, read_in, with_doom, with_entry, with_more}
-use Rattle.history_book.specs.Readings.{Reading, did, is_doomed, next_of, pends, put}
-use Rattle.history_book.specs.Settings.{Setting, is_weak}
-use Rattle.history_book.specs.WellFormed.{IsWellFormed, may_follow}
-use Rattle.history_book.specs.declared.entries.Cause.TheVariants.{Lost, MustDown}
-use Rattle.history_book.specs.declared.entries.Cause.{Cause}
-use Rattle.history_book.specs.declared.entries.Entry.TheVariants.{Did, Doomed, Fell, Undid}
-use Rattle.history_book.specs.declared.entries.Entry.{Entry}
-use Rattle.home_types.specs.declared.commands.Answer.TheVariants.{Down}
-use Rattle.home_types.specs.declared.commands.Command.{Command}
+use Rattle.hub_core.proofs.Prelude.{Bool, Cause, ChangesEach, Command, Commands, DeviceNo, Did, Died, Done, Doomed, Down, Entry, Failed, Fell, Gripped, Grips, GripsFit, HasFallen, HistoryState, Inside, IsSome, IsTrue, IsWaiting, IsWellFormed, IsWhole, LineageState, List, Lost, Marked, MayNote, MayTake, MayTurn, MustDown, None, Option, OrderIsBeside, Reading, RunNo, Sensed, Setting, Shown, Slip, Some, Told, Undid, Undoes, Worked, [], ap, append_assoc, ap₂, arith, command_at, commands_of, configuration_of, counted_up, did, doomed_lineage, entries_made, entries_of, entry, false, fold, grips_command, has_died, held_in, home_fits, if◌then◌else◌, is_doomed, is_first, is_run, is_some, is_weak, kept_by, length, length_set, lineage_at, lineage_set, may_follow, next_of, not, noted_first, open_of, option_map, option_to_list, or-true, pends, point, put, put_other, read_in, refl, run_no, subst, suc, sym, takes_first, takes_rest, true, with_doom, with_entry, with_lineage, with_more, ℕ, ◌&&◌, ◌+◌, ◌-◌, ◌<◌, ◌||◌, ◌∙◌, ◌∷◌, ◌≡◌, ◌≤◌}
 use Rattle.home_types.specs.declared.commands.View.TheVariants.{Down as ViewedDown}
 use Rattle.home_types.specs.declared.commands.View.{View}
-use Rattle.home_types.specs.declared.items.Item.TheVariants.{Failed}
-use Rattle.home_types.specs.declared.numbers.DeviceNo.{DeviceNo}
-use Rattle.home_types.specs.declared.numbers.RunNo.{RunNo}
 use Rattle.hub_core.proofs.calls.Homecomings.{CameHome, IsHome, IsReturned, came_whole, returned_entries, returned_for, returned_places, takes_back}
 use Rattle.hub_core.proofs.calls.HubChanges.{answer_entries, answered_more}
 use Rattle.hub_core.proofs.calls.HubOrders.{read_whole}
-use Rattle.window_order.proofs.Cited.{home_fits, length_set, lineage_set}
 use Rattle.hub_core.proofs.calls.OutFor.{IsForCommand, for_command}
 use Rattle.hub_core.proofs.calls.Turning.{Falls, TellsTurn, fallen_number, may_fall}
 use Rattle.hub_core.proofs.kept.FallenOrders.{order_died, order_died_weakly, order_undo_died}
@@ -35,24 +12,9 @@ use Rattle.hub_core.proofs.kept.KeptByModel.{undo_ordered}
 use Rattle.hub_core.proofs.kept.OrderSteps.{done_after, may_note, none_out, order_doomed_if, read_more}
 use Rattle.hub_core.proofs.kept.TableFits.{either_model}
 use Rattle.history_book.specs.Causes.{died_by}
-use Rattle.hub_core.specs.HubsKept.{IsWhole, open_of}
-use Rattle.hub_core.specs.OrderStates.{HasFallen, MayTurn, OrderIsBeside}
-use Rattle.window_order.specs.OrderStates.{MayNote, is_first, noted_first}
-use Rattle.hub_core.specs.OpenHubs.{configuration_of, held_in}
 use Rattle.window_order.specs.declared.order_states.OrderState.{OrderState}
 use Rattle.window_devices.specs.declared.known.Events.{Events}
-use Rattle.hub_core.specs.declared.open_windows.OpenWindow.TheInside.{Inside}
-use Rattle.lineage_table.specs.Lineages.{LineageState, counted_up, lineage_at, with_lineage}
-use Rattle.lock_leasing.specs.Configurations.{Grips, grips_command, point}
-use Rattle.lock_leasing.specs.Places.{GripsFit}
-use Rattle.serial_line.specs.Marks.{Marked}
-use Rattle.std.proofs.Common.{ap, append_assoc, ap₂, arith, refl, subst, sym, ◌∙◌}
-use Rattle.std.proofs.Math.Bool.{or-true}
 use Rattle.std.specs.Bool.{then_some}
-use Rattle.std.specs.Prelude.{Bool, IsSome, IsTrue, List, None, Option, Some, [], false, fold, if◌then◌else◌, is_some, length, not, option_map, option_to_list, suc, true, ℕ, ◌&&◌, ◌+◌, ◌-◌, ◌<◌, ◌||◌, ◌∷◌, ◌≡◌, ◌≤◌}
-use Rattle.window_order.specs.TableChanges.{ChangesEach, IsWaiting, doomed_lineage}
-use Rattle.lock_leasing.specs.declared.purposes.Purpose.TheVariants.{Commands, Undoes}
-use Rattle.history_book.specs.Packed.{entries_made}
 
 died_told : (told : Told) → has_died told ≡ true → told ≡ Died
 died_told Worked died = absurd (cc)

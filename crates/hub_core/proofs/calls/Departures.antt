@@ -1,47 +1,10 @@
 -- A device that goes out keeps what the type of a hub keeps, for whom it goes.
-use Rattle.legal_days.proofs.Cited.{count_cons}
-use Rattle.std.specs.Option.{option_copied}
-use Rattle.device_gate.specs.Calls.{probed}
-use Rattle.device_gate.specs.Grips.{Gripped}
+use Rattle.hub_core.proofs.Prelude.{Bool, Configuration, CountsAreLow, DeviceNo, DeviceProgress, FitsAtHome, FitsOut, Grip, Gripped, Grips, HeldTokensAre, Home, HubIsKept, Inside, IsHome, IsKeptByModel, IsNextGrip, IsSent, IsTrue, IsWhole, Kept, List, MayBeProbed, None, OpenHub, Option, OrderIsBeside, Out, Place, Purpose, SameWindow, Setting, Shown, Slip, Some, Task, [], all_probes_taken, ap, ap₂, arith, carrying, cond, configuration_of, count_by, count_by-le-length, count_cons, device_here, device_no, device_there, entries_of, false, get_set, grip_in, grips_set, has_value, held_in, hub_state_of, inl, inr, is_away, is_fall_of, is_out, is_some, kind_at, known_same, known_set, length, length-set, nat_lt, no_device, open_of, option_copied, probed, probes_of, progress_at, put, read_of, refl, same_Some, slice_get, slice_get_within, slice_set, subst, suc, sum_by, sum_by-le, sum_by-set, sym, task_of, tells_call, told_calls, told_falls, true, zero, ℕ, ⊤, ◌*◌, ◌+◌, ◌-◌, ◌<◌, ◌∙◌, ◌∷◌, ◌≡◌, ◌≤◌}
 use Rattle.device_gate.specs.declared.grips.Ready.{Ready}
-use Rattle.device_gate.specs.Places.{IsHome}
-use Rattle.device_gate.specs.declared.gates.Place.TheVariants.{Home, Out}
-use Rattle.device_gate.specs.declared.gates.Place.{Place}
-use Rattle.device_gate.specs.declared.slips.Slip.{Slip}
-use Rattle.device_gate.specs.declared.slips.Task.{Task}
-use Rattle.device_states.specs.Devices.{MayBeProbed, Shown}
 use Rattle.std.specs.Borrow.{Bor}
-use Rattle.history_book.specs.Histories.{entries_of, is_fall_of}
-use Rattle.history_book.specs.Readings.{put}
-use Rattle.history_book.specs.Settings.{Setting}
-use Rattle.history_book.specs.declared.entries.Kept.{Kept}
 use Rattle.hub_core.proofs.calls.HubChanges.{few_entries, task_same}
-use Rattle.window_devices.proofs.Cited.{device_here, device_there, get_set, grips_set, known_same, known_set}
 use Rattle.hub_core.proofs.calls.HubStates.{carried_set}
-use Rattle.legal_days.specs.AccountedCalls.{tells_call, told_calls, told_falls}
-use Rattle.hub_core.specs.Homes.{CountsAreLow}
-use Rattle.home_types.specs.Kinds.{has_value, kind_at}
-use Rattle.hub_core.specs.HubKept.{probes_of}
-use Rattle.hub_core.specs.KeptByModel.{IsKeptByModel}
-use Rattle.hub_core.specs.HubCalls.{IsNextGrip, SameWindow}
-use Rattle.hub_core.specs.HubSteps.{carrying, task_of}
-use Rattle.window_devices.specs.Checkouts.{HeldTokensAre, IsSent}
-use Rattle.hub_core.specs.HubsKept.{FitsAtHome, FitsOut, HubIsKept, IsWhole, all_probes_taken, is_away, open_of}
-use Rattle.hub_core.specs.OrderStates.{OrderIsBeside}
-use Rattle.hub_core.specs.declared.open_windows.OpenWindow.TheInside.{Inside}
-use Rattle.home_types.specs.declared.numbers.DeviceNo.{DeviceNo}
-use Rattle.command_rules.specs.Rosters.{device_no}
-use Rattle.hub_core.specs.OpenHubs.{OpenHub, configuration_of, held_in, hub_state_of}
-use Rattle.window_devices.specs.KnownDevices.{grip_in, no_device, progress_at}
-use Rattle.lock_leasing.specs.declared.purposes.Purpose.{Purpose}
-use Rattle.window_devices.specs.declared.known.DeviceProgress.{DeviceProgress}
-use Rattle.lock_leasing.specs.Configurations.{Configuration, Grip, Grips, is_out, read_of}
-use Rattle.std.proofs.Common.{ap, ap₂, arith, cond, inl, inr, refl, subst, sym, ◌∙◌}
-use Rattle.std.proofs.lemmas.List.{length-set}
-use Rattle.std.proofs.lemmas.List.Sums.{count_by-le-length, sum_by-le, sum_by-set}
 use Rattle.std.proofs.lemmas.Nat.{mul-le}
-use Rattle.std.proofs.lemmas.Option.{same_Some, slice_get_within}
-use Rattle.std.specs.Prelude.{Bool, IsTrue, List, None, Option, Some, [], count_by, false, is_some, length, nat_lt, slice_get, slice_set, suc, sum_by, true, zero, ℕ, ⊤, ◌*◌, ◌+◌, ◌-◌, ◌<◌, ◌∷◌, ◌≡◌, ◌≤◌}
 
 -- one where it is so, else none
 abbrev pub one_for : Bool → ℕ

@@ -1,15 +1,9 @@
 -- In a legal window every run has ended.
-use Rattle.command_rules.specs.Rosters.{is_run}
-use Rattle.history_book.specs.Histories.{reading}
-use Rattle.history_book.specs.Settings.{Setting, is_weak, run_numbers}
+use Rattle.hub_core.proofs.Prelude.{AllPass-from_list_all, Bool, IsLegalWindow, IsSeriallyLegal, IsWeaklyLegal, Setting, all_ended, arith, false, get_or, history_of, is_run, is_some, is_weak, length, reading, run_numbers, subst, true, ℕ, ◌+◌, ◌-◌, ◌<◌, ◌∙◌, ◌≡◌, ◌≤◌}
 use Rattle.history_book.specs.declared.records.WindowRecord.{WindowRecord}
 use Rattle.hub_core.proofs.kept.Sizes.{run_within}
-use Rattle.legal_days.specs.LegalWindows.{IsLegalWindow, IsSeriallyLegal, IsWeaklyLegal, all_ended, history_of}
-use Rattle.std.proofs.Common.{arith, get_or, subst, ◌∙◌}
 use Rattle.std.proofs.lemmas.List.Elements.{All-get_or}
 use Rattle.std.proofs.lemmas.List.FromFn.{get_or-range_with_len, length-range_with_len}
-use Rattle.std.proofs.lemmas.List.Sums.{AllPass-from_list_all}
-use Rattle.std.specs.Prelude.{Bool, false, is_some, length, true, ℕ, ◌+◌, ◌-◌, ◌<◌, ◌≡◌, ◌≤◌}
 
 all_have : (w : Setting) (closed : WindowRecord) → IsLegalWindow w closed → all_ended w (history_of closed) ≡ true
 all_have w closed legal = by_model (is_weak w.mode) legal

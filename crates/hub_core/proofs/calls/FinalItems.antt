@@ -1,53 +1,17 @@
 -- The items before the first live run are final: with each step of a hub they stay, and so the record of a window begins with them.
-use Rattle.command_rules.specs.Rosters.{command_at, device_no, run_no}
-use Rattle.device_gate.specs.Grips.{Gripped}
-use Rattle.device_gate.specs.declared.grips.Done.{Done}
+use Rattle.hub_core.proofs.Prelude.{Absent, Along, Arrived, Bool, Carried, Choice, Command, Commands, Configuration, Did, Died, Done, Doomed, Ended, Entry, Err, Fell, Found, Gave, Grip, Gripped, Grips, HandsOut, HubIsKept, HubState, Inside, IsGiven, IsLegalWindow, IsProbeGiven, IsProbed, IsScheduled, IsSeriallyLegal, IsTurn, IsWeaklyLegal, IsWellFormed, IsWhole, Item, List, Lost, Moves, MustDown, None, Ok, OpenHub, Option, Over, Placed, Probes, Purpose, Reading, Refuted, Result, Returned, Rose, Sensed, Setting, Shown, Some, Told, Undid, Undoes, Waits, Worked, [], after_choice, after_give, after_take, after_take_probe, ap, arith, at_moment, begins_with_sealed, carried_by, choice_of, command_at, command_entries, common_steps, configuration_of, decide, device_no, did, down_entries, entries_of, entries_on, entry, fails, false, give_entries, give_if, history_of, hub_state_of, if◌then◌else◌, is_doomed, is_weak, items_of, kept_by, line_of, list_any, lost_by, max, may_probe, next_of, not, nothing_read, open_of, option_map, option_to_list, point, probe_entries, probe_grip, put, read_of, reading, refl, run_no, scheduled_stands, sealed_on, slice_get, split_of, stays_itself, subst, suc, sym, take, true, undo_entries, zero, ℕ, ◌&&◌, ◌++◌, ◌-◌, ◌<◌, ◌||◌, ◌∙◌, ◌∷◌, ◌≡◌, ◌≤◌}
 use Rattle.device_gate.specs.declared.grips.Ready.{Ready}
-use Rattle.device_gate.specs.declared.slips.Told.TheVariants.{Died, Sensed, Worked}
-use Rattle.device_gate.specs.declared.slips.Told.{Told}
 use Rattle.device_gate.specs.declared.strangers.Stranger.{Stranger}
-use Rattle.device_states.specs.Devices.{Shown}
-use Rattle.history_book.proofs.Cited.{begins_with_sealed, entries_on, sealed_on, stays_itself}
-use Rattle.history_book.specs.Histories.{entries_of, entry, kept_by, line_of, reading}
-use Rattle.history_book.specs.Gaps.{split_of}
-use Rattle.history_book.specs.Readings.{Reading, did, is_doomed, next_of, nothing_read, put}
 use Rattle.history_book.specs.Sealed.{BeginsWithSealed, IsPlacedBehind, StaysSealed, sealed_of}
-use Rattle.history_book.specs.Settings.{Setting, is_weak}
-use Rattle.history_book.specs.WellFormed.{Along, IsWellFormed}
-use Rattle.history_book.specs.declared.entries.Cause.TheVariants.{Lost, MustDown, Refuted}
-use Rattle.history_book.specs.declared.entries.Entry.TheVariants.{Arrived, Did, Doomed, Ended, Fell, Placed, Rose, Undid}
-use Rattle.history_book.specs.declared.entries.Entry.{Entry}
 use Rattle.history_book.specs.declared.records.WindowRecord.{WindowRecord}
-use Rattle.home_types.specs.Commands.{fails}
-use Rattle.home_types.specs.declared.commands.Answer.TheVariants.{Found}
-use Rattle.home_types.specs.declared.commands.Command.{Command}
-use Rattle.home_types.specs.declared.items.Item.{Item}
 use Rattle.hub_core.proofs.calls.HubMarks.{after}
 use Rattle.hub_core.proofs.calls.HubOrders.{read_whole}
 use Rattle.hub_core.proofs.kept.SealedOrders.{sealed_is}
 use Rattle.hub_core.proofs.steps.Choices.{decide_is}
 use Rattle.hub_core.proofs.steps.HubAnswers.{took_after, took_probe}
 use Rattle.hub_core.proofs.steps.Takes.{made_by}
-use Rattle.hub_core.specs.HubCalls.{IsGiven, IsProbeGiven, IsProbed, IsTurn, carried_by}
-use Rattle.hub_core.specs.HubSteps.{Carried, Gave, HubState, Returned, give_if}
-use Rattle.hub_core.specs.HubsKept.{HubIsKept, IsWhole, open_of}
-use Rattle.legal_days.specs.LegalWindows.{IsLegalWindow, IsSeriallyLegal, IsWeaklyLegal, history_of}
-use Rattle.hub_core.specs.OpenHubs.{OpenHub, configuration_of, hub_state_of}
-use Rattle.hub_core.specs.Steps.{Absent, Choice, HandsOut, Moves, Over, Waits, after_choice, after_give, after_take_probe, at_moment, choice_of, command_entries, decide, down_entries, give_entries, may_probe, probe_entries, probe_grip, undo_entries, after_take}
-use Rattle.hub_core.specs.declared.open_windows.OpenWindow.TheInside.{Inside}
 use Rattle.hub_core.specs.declared.turns.Turn.TheVariants.{Absent as NoRun, Go, Moved, Over as Ending, Wait}
 use Rattle.hub_core.specs.declared.turns.Turn.{Turn}
-use Rattle.lock_leasing.proofs.Cited.{scheduled_stands}
-use Rattle.lock_leasing.specs.Configurations.{Configuration, Grip, Grips, point, read_of}
-use Rattle.lock_leasing.specs.declared.purposes.Purpose.TheVariants.{Commands, Probes, Undoes}
-use Rattle.lock_leasing.specs.declared.purposes.Purpose.{Purpose}
-use Rattle.lock_leasing.specs.Places.{IsScheduled}
-use Rattle.lock_leasing.specs.Waits.{lost_by}
-use Rattle.serial_line.specs.Marks.{items_of}
-use Rattle.std.proofs.Common.{ap, arith, refl, subst, sym, ◌∙◌}
-use Rattle.std.proofs.lemmas.Grind.{common_steps}
-use Rattle.std.specs.List.{list_any}
-use Rattle.std.specs.Prelude.{Bool, Err, List, None, Ok, Option, Result, Some, [], false, if◌then◌else◌, max, not, option_map, option_to_list, slice_get, suc, take, true, zero, ℕ, ◌&&◌, ◌++◌, ◌-◌, ◌<◌, ◌||◌, ◌∷◌, ◌≡◌, ◌≤◌}
 
 -- The entries of a step place no run but behind what is sealed
 

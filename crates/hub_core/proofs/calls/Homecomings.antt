@@ -1,56 +1,13 @@
 -- A device that comes home keeps what the type of a hub keeps, whoever's grip it was, and is the step that it says.
-use Rattle.device_gate.specs.Calls.{has_died, held_after, probed, value_after}
-use Rattle.device_gate.specs.Grips.{Gripped, WasCalled}
-use Rattle.device_gate.specs.Places.{IsKept}
-use Rattle.device_gate.specs.declared.gates.Place.TheVariants.{Home, Out}
-use Rattle.device_gate.specs.declared.gates.Place.{Place}
-use Rattle.device_gate.specs.declared.grips.Done.{Done}
-use Rattle.device_gate.specs.declared.slips.Slip.{Slip}
-use Rattle.device_gate.specs.declared.slips.Task.{Task}
-use Rattle.device_gate.specs.declared.slips.Told.{Told}
-use Rattle.device_states.specs.Devices.{Shown}
-use Rattle.history_book.proofs.Cited.{MayTake, fell_is, run_place}
-use Rattle.history_book.specs.Histories.{entries_of, kept_by}
-use Rattle.history_book.specs.ReadHistories.{HistoryState, read_in, with_more}
-use Rattle.history_book.specs.Readings.{Reading, put}
-use Rattle.history_book.specs.Settings.{Setting}
-use Rattle.history_book.specs.WellFormed.{IsWellFormed}
-use Rattle.history_book.specs.declared.entries.Entry.{Entry}
-use Rattle.home_types.specs.Kinds.{has_value, kind_at}
+use Rattle.hub_core.proofs.Prelude.{Bool, Carried, Commands, Configuration, CountsAreLow, DeviceProgress, Done, Entry, FitsAtHome, Gave, Grip, Gripped, Grips, HasRoomLeft, HeldTokensAre, HistoryState, Home, HubIsKept, HubState, IfSome, Inside, IsGiven, IsHomeAgain, IsKept, IsKeptByModel, IsProbeGiven, IsTrue, IsWellFormed, IsWhole, List, MayComeHome, MayTake, None, Ok, OpenHub, Option, OrderIsBeside, Out, Place, Probes, Purpose, Reading, Returned, RunGiven, SameWindow, Setting, Shown, Slip, Some, Task, Told, Undoes, WasCalled, [], after_give, all_probes_taken, ap, arith, at_moment, carried_by, common_steps, configuration_of, count_by, count_cons, device_here, device_there, entries_of, eq-eqb, events_after, events_in, false, fell_is, get_set, give, give_entries, give_if, give_probe, grip_in, grips_set, hands_come, has_died, has_value, held_after, held_in, hub_state_of, if◌then◌else◌, inl, inr, is_away, is_of_run, kept_by, kind_at, known_after, known_same, known_set, length, length-set, lt-ltb, max, most_entries, nat_lt, ne_eqb, open_of, option_map, probed, progress_at, put, read_in, read_of, refl, run_place, same_Some, slice_get, slice_get_within, slice_set, subst, suc, sym, task_of, told_calls, told_falls, true, turned, unwrap_or, value_after, with_entries, with_grip, with_hand, with_more, zero, ℕ, ⊤, ◌&&◌, ◌*◌, ◌++◌, ◌+◌, ◌-◌, ◌<◌, ◌==◌, ◌∙◌, ◌∷◌, ◌≡◌, ◌≢◌, ◌≤◌}
 use Rattle.hub_core.proofs.calls.Departures.{one_for, other_home, other_out, taken_same}
 use Rattle.hub_core.proofs.calls.HubChanges.{events_same, length_with}
 use Rattle.hub_core.proofs.calls.HubStates.{carried_set, kept_is}
-use Rattle.window_devices.proofs.Cited.{device_here, device_there, get_set, grips_set, hands_come, known_same, known_set}
 use Rattle.hub_core.proofs.calls.OutFor.{IsFor, brings_back, entries_for, out_for, some_entry, value_same}
 use Rattle.hub_core.proofs.kept.KeptByModel.{given_kept}
 use Rattle.hub_core.proofs.kept.Sizes.{few_events, history_fits}
 use Rattle.hub_core.proofs.steps.Calls.{calls_told, falls_of, give_calls, give_counted, give_down, give_falls, give_registers, give_rises, is_up_for, rises_of}
-use Rattle.window_devices.specs.Checkouts.{HeldTokensAre, IsHomeAgain, MayComeHome, with_hand}
-use Rattle.window_devices.specs.KnownDevices.{events_after, grip_in, known_after, progress_at, turned}
-use Rattle.hub_core.specs.Bounds.{most_entries}
-use Rattle.hub_core.specs.Homes.{CountsAreLow}
-use Rattle.hub_core.specs.HubCalls.{IsGiven, IsProbeGiven, SameWindow, carried_by}
-use Rattle.hub_core.specs.HubKept.{is_of_run}
-use Rattle.hub_core.specs.HubSteps.{Carried, Gave, HubState, Returned, RunGiven, give, give_if, give_probe, task_of}
-use Rattle.hub_core.specs.HubsKept.{FitsAtHome, HasRoomLeft, HubIsKept, IsWhole, all_probes_taken, is_away, open_of}
-use Rattle.hub_core.specs.KeptByModel.{IsKeptByModel}
-use Rattle.hub_core.specs.OrderStates.{OrderIsBeside}
-use Rattle.hub_core.specs.OpenHubs.{OpenHub, configuration_of, events_in, held_in, hub_state_of}
-use Rattle.lock_leasing.specs.declared.purposes.Purpose.TheVariants.{Commands, Probes, Undoes}
-use Rattle.lock_leasing.specs.declared.purposes.Purpose.{Purpose}
-use Rattle.hub_core.specs.Steps.{after_give, at_moment, give_entries, with_entries, with_grip}
-use Rattle.window_devices.specs.declared.known.DeviceProgress.{DeviceProgress}
 use Rattle.window_devices.specs.declared.known.Events.{Events}
-use Rattle.hub_core.specs.declared.open_windows.OpenWindow.TheInside.{Inside}
-use Rattle.legal_days.proofs.Cited.{count_cons}
-use Rattle.legal_days.specs.AccountedCalls.{told_calls, told_falls}
-use Rattle.lock_leasing.specs.Configurations.{Configuration, Grip, Grips, read_of}
-use Rattle.std.proofs.Common.{ap, arith, inl, inr, refl, subst, sym, ◌∙◌}
-use Rattle.std.proofs.lemmas.Bool.{eq-eqb, lt-ltb, ne_eqb}
-use Rattle.std.proofs.lemmas.Grind.{common_steps}
-use Rattle.std.proofs.lemmas.List.{length-set}
-use Rattle.std.proofs.lemmas.Option.{same_Some, slice_get_within}
-use Rattle.std.specs.Prelude.{Bool, IfSome, IsTrue, List, None, Ok, Option, Some, [], count_by, false, if◌then◌else◌, length, max, nat_lt, option_map, slice_get, slice_set, suc, true, unwrap_or, zero, ℕ, ⊤, ◌&&◌, ◌*◌, ◌++◌, ◌+◌, ◌-◌, ◌<◌, ◌==◌, ◌∷◌, ◌≡◌, ◌≢◌, ◌≤◌}
 
 -- The device is home again
 

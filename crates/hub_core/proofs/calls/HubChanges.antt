@@ -1,47 +1,15 @@
 -- A step of a run in which no device goes out keeps what the type of a hub keeps, and is the step that it says.
-use Rattle.device_states.specs.Devices.{Shown}
+use Rattle.hub_core.proofs.Prelude.{Answer, Answers, Bool, Cause, Choice, Chose, Commands, Configuration, Did, Doomed, End, Entry, HasRoomLeft, HistoryState, HubIsKept, HubStep, IfSome, Inside, IsKeptByModel, IsTrue, IsWellFormed, IsWhole, Kept, List, MayTake, Moves, None, OpenHub, Option, OrderIsBeside, Over, Probes, Purpose, Setting, Shown, Slip, SlipFits, Some, Take, Undoes, [], after_choice, after_take, all_probes_taken, ap, append_assoc, ap₂, arith, at_moment, carried_after, choice_of, command_at, configuration_of, count_by, driven, entries_of, events_in, fell_is, held_in, hub_state_of, if◌then◌else◌, is_away, is_weak, kept_by, kind_at, length, length-append, length-map, max, may_follow, most_entries, open_of, option_map, option_to_list, progress_at, read_in, read_of, reading, reads, refl, run_no, subst, sym, takes_first, takes_rest, task_of, told_calls, told_falls, with_doom, with_entry, with_more, ℕ, ◌*◌, ◌++◌, ◌+◌, ◌-◌, ◌<◌, ◌∙◌, ◌∷◌, ◌≡◌, ◌≤◌}
 use Rattle.hub_core.proofs.kept.KeptByModel.{later_kept, taken_kept}
-use Rattle.history_book.proofs.Cited.{MayTake, fell_is, takes_first, takes_rest}
-use Rattle.history_book.specs.Histories.{entries_of, kept_by, reading}
-use Rattle.history_book.specs.Settings.{Setting, is_weak}
-use Rattle.history_book.specs.WellFormed.{IsWellFormed, may_follow}
-use Rattle.history_book.specs.declared.entries.Cause.{Cause}
-use Rattle.history_book.specs.declared.entries.End.{End}
-use Rattle.history_book.specs.declared.entries.Entry.TheVariants.{Did, Doomed}
-use Rattle.history_book.specs.declared.entries.Entry.{Entry}
-use Rattle.history_book.specs.declared.entries.Kept.{Kept}
-use Rattle.device_gate.specs.declared.slips.Slip.{Slip}
-use Rattle.home_types.specs.Commands.{driven, reads}
-use Rattle.home_types.specs.Kinds.{kind_at}
-use Rattle.home_types.specs.declared.commands.Answer.{Answer}
 use Rattle.home_types.specs.Limits.{most_devices, most_probes, most_runs}
-use Rattle.command_rules.specs.Rosters.{command_at, run_no}
 use Rattle.device_gate.specs.declared.slips.Task.TheVariants.{Drive, Sense}
 use Rattle.hub_core.proofs.steps.Calls.{take_calls, take_counted, take_falls, take_registers, take_rises}
 use Rattle.hub_core.proofs.kept.Sizes.{history_fits}
-use Rattle.legal_days.specs.AccountedCalls.{told_calls, told_falls}
-use Rattle.hub_core.specs.Bounds.{most_entries}
 use Rattle.hub_core.specs.Decisions.{told_choice}
-use Rattle.hub_core.specs.HubCalls.{Answers}
-use Rattle.hub_core.specs.KeptByModel.{IsKeptByModel}
-use Rattle.hub_core.specs.HubSteps.{Chose, HubStep, SlipFits, Take, carried_after, task_of}
-use Rattle.hub_core.specs.HubsKept.{HasRoomLeft, HubIsKept, IsWhole, all_probes_taken, is_away, open_of}
-use Rattle.hub_core.specs.OrderStates.{OrderIsBeside}
-use Rattle.hub_core.specs.OpenHubs.{OpenHub, configuration_of, events_in, held_in, hub_state_of}
-use Rattle.window_devices.specs.KnownDevices.{progress_at}
-use Rattle.lock_leasing.specs.declared.purposes.Purpose.TheVariants.{Commands, Probes, Undoes}
-use Rattle.lock_leasing.specs.declared.purposes.Purpose.{Purpose}
-use Rattle.history_book.specs.ReadHistories.{HistoryState, read_in, with_doom, with_entry, with_more}
-use Rattle.hub_core.specs.Steps.{Choice, Moves, Over, after_choice, after_take, at_moment, choice_of}
 use Rattle.hub_core.specs.declared.decisions.Chosen.{Chosen}
 use Rattle.hub_core.specs.declared.open_windows.ClosingLists.{ClosingLists}
-use Rattle.hub_core.specs.declared.open_windows.OpenWindow.TheInside.{Inside}
 use Rattle.window_order.specs.declared.order_states.OrderState.{OrderState}
-use Rattle.lock_leasing.specs.Configurations.{Configuration, read_of}
-use Rattle.std.proofs.Common.{ap, append_assoc, ap₂, arith, length-append, refl, subst, sym, ◌∙◌}
-use Rattle.std.proofs.lemmas.List.{length-map}
 use Rattle.std.proofs.lemmas.Nat.{mul-le}
-use Rattle.std.specs.Prelude.{Bool, IfSome, IsTrue, List, None, Option, Some, [], count_by, if◌then◌else◌, length, max, option_map, option_to_list, ℕ, ◌*◌, ◌++◌, ◌+◌, ◌-◌, ◌<◌, ◌∷◌, ◌≡◌, ◌≤◌}
 
 -- where a register is the same, what a device is out for does the same
 pub task_same : (s c : Configuration) (r : ℕ) (purpose : Purpose) → s.setting ≡ c.setting → ((read_of s).run r).register ≡ ((read_of c).run r).register → task_of s r purpose ≡ task_of c r purpose

@@ -1,57 +1,21 @@
 -- What the code finds in each case of a step is the choice of the step.
-use Rattle.device_states.specs.Devices.{Shown}
+use Rattle.hub_core.proofs.Prelude.{Absent, Bool, Cause, Choice, Command, Commands, Committed, Configuration, DeviceNo, Did, Doomed, Down, DownAtEnd, Ended, Grips, HandsOut, Home, HubIsKept, IsAtCommand, IsKeptByModel, IsSkipped, IsStandingOf, IsToldDown, IsTrue, Moves, MustDown, None, OpenHub, Option, Out, Over, Place, PlacedAt, Point, Purpose, Reading, Revoked, RunNo, Setting, Shown, Slip, Some, Undid, Undoes, Visibility, Waits, WindowParts, [], aborts, answers_down, ap, arith, behind_wait, busy_wait, choice_of, command_at, commands_of, common_steps, configuration_of, decide, decide_answered, decide_command, decide_doomed, device_no, dirty_wait, down_at_end, down_entries, entries_of, false, first_case, grip_in, grip_wait, holds, if◌then◌else◌, is_device, is_doomed, is_live, is_none, is_out, is_run, is_some, is_weak, kind_at, lease_deadline, length, max, names_values_of, next_command, next_is, next_of, next_undo_of, not, not_none, option_map, overdue_for, point, point_of, read_facts, read_of, refl, run_no, sees_down, skip_entries, slip_of, strict_wait, subst, sym, true, unwrap_or, value_without, ℕ, ◌&&◌, ◌<◌, ◌||◌, ◌∙◌, ◌∷◌, ◌≡◌}
 use Rattle.hub_core.specs.WeakSteps.{weak_rest}
 use Rattle.hub_core.proofs.weak.WeakChoices.{rest_is}
-use Rattle.hub_core.specs.Openings.{names_values_of}
-use Rattle.home_types.specs.Commands.{holds}
-use Rattle.home_types.specs.Kinds.{kind_at}
 use Rattle.hub_core.proofs.steps.Choices.{Commanding, IsNext, Skipping, known_by}
 use Rattle.abort_rollback.specs.declared.undos.Undo.TheVariants.{Drive, Drop, Finished}
 use Rattle.abort_rollback.specs.declared.undos.Undo.{Undo}
-use Rattle.command_rules.specs.Rosters.{command_at, commands_of, device_no, is_run, run_no}
-use Rattle.device_gate.specs.Places.{slip_of}
-use Rattle.device_gate.specs.declared.gates.Place.TheVariants.{Home, Out}
-use Rattle.device_gate.specs.declared.gates.Place.{Place}
-use Rattle.device_gate.specs.declared.slips.Slip.{Slip}
-use Rattle.history_book.specs.Histories.{entries_of}
-use Rattle.history_book.specs.Readings.{PlacedAt, Reading, is_doomed, is_live, next_command, next_of, sees_down}
-use Rattle.history_book.specs.Settings.{Setting, is_device, is_weak}
-use Rattle.history_book.specs.declared.entries.Cause.TheVariants.{DownAtEnd, MustDown, Revoked}
-use Rattle.history_book.specs.declared.entries.Cause.{Cause}
-use Rattle.history_book.specs.declared.entries.End.TheVariants.{Committed}
-use Rattle.history_book.specs.declared.entries.Entry.TheVariants.{Did, Doomed, Ended, Undid}
-use Rattle.home_types.specs.declared.commands.Answer.TheVariants.{Down}
-use Rattle.home_types.specs.declared.commands.Command.{Command}
-use Rattle.home_types.specs.declared.modes.Visibility.{Visibility}
-use Rattle.home_types.specs.declared.numbers.DeviceNo.{DeviceNo}
-use Rattle.home_types.specs.declared.numbers.RunNo.{RunNo}
 use Rattle.hub_core.proofs.calls.NextUndos.{undo_of}
-use Rattle.window_devices.proofs.Cited.{not_none}
 use Rattle.hub_core.proofs.windows.StrongChoices.{command_current, command_is, doomed_is, skip_is}
 use Rattle.hub_core.specs.Decisions.{current_command, skipped_command, strong_command, strong_doomed, unbarred_command}
-use Rattle.hub_core.specs.KeptByModel.{IsKeptByModel}
-use Rattle.hub_core.specs.HubsKept.{HubIsKept}
 use Rattle.history_book.specs.Progress.{progress_of}
-use Rattle.hub_core.specs.OpenHubs.{OpenHub, configuration_of}
-use Rattle.window_devices.specs.KnownDevices.{grip_in}
-use Rattle.hub_core.specs.Steps.{Absent, Choice, HandsOut, Moves, Over, Waits, aborts, answers_down, choice_of, decide, decide_answered, decide_command, decide_doomed, down_entries, first_case, skip_entries}
 use Rattle.history_book.specs.declared.progress.RunProgress.{RunProgress}
-use Rattle.lock_leasing.specs.declared.purposes.Purpose.TheVariants.{Commands, Undoes}
-use Rattle.lock_leasing.specs.declared.purposes.Purpose.{Purpose}
 use Rattle.hub_core.specs.declared.waits.Why.TheVariants.{Behind, Busy, Dirty, Strict}
-use Rattle.lock_leasing.specs.Configurations.{Configuration, Grips, Point, is_out, point, point_of, read_of}
 use Rattle.lock_leasing.specs.Leases.{overdue_lease}
-use Rattle.lock_leasing.specs.Standings.{IsAtCommand, IsStandingOf, WindowParts}
 use Rattle.lock_leasing.specs.Touches.{IsTouchOf, touch_of}
-use Rattle.lock_leasing.specs.Waits.{behind_wait, busy_wait, dirty_wait, down_at_end, grip_wait, strict_wait}
-use Rattle.lock_leasing.specs.Words.{lease_deadline, next_undo_of, overdue_for, value_without}
 use Rattle.lock_leasing.specs.declared.touches.Touch.TheVariants.{Behind as TouchBehind, Dirty as TouchDirty, Free}
 use Rattle.lock_leasing.specs.declared.touches.Touch.{Touch}
-use Rattle.std.proofs.Common.{ap, arith, refl, subst, sym, ◌∙◌}
-use Rattle.std.proofs.lemmas.Grind.{common_steps}
-use Rattle.std.specs.Prelude.{Bool, IsTrue, None, Option, Some, [], false, if◌then◌else◌, is_none, is_some, length, max, not, option_map, true, unwrap_or, ℕ, ◌&&◌, ◌<◌, ◌||◌, ◌∷◌, ◌≡◌}
 use Rattle.visibility_models.specs.Models.{IsDownAtEndOf, IsStrictWaitOf, IsUnderWay, under}
-use Rattle.window_order.proofs.Cited.{IsSkipped, IsToldDown, next_is, read_facts}
 
 -- The grip and the slip of a place
 

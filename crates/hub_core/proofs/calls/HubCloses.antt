@@ -1,18 +1,6 @@
 -- A window that closes: its devices are home, its record is legal, and the home that is left is as every home is kept.
-use Rattle.device_gate.specs.Places.{AllHome, AreNumbered, all_home}
-use Rattle.device_gate.specs.declared.gates.Place.TheVariants.{Home, Out}
-use Rattle.device_gate.specs.declared.gates.Place.{Place}
-use Rattle.device_states.specs.Devices.{Shown}
-use Rattle.history_book.specs.Histories.{entries_of, is_fall_of, reading}
-use Rattle.history_book.specs.ReadHistories.{read_in}
-use Rattle.history_book.specs.Settings.{is_device, is_weak}
-use Rattle.history_book.specs.declared.entries.End.TheVariants.{Committed}
-use Rattle.history_book.specs.declared.entries.Entry.{Entry}
+use Rattle.hub_core.proofs.Prelude.{AllHome, AreNumbered, Bool, CallsAreAccounted, Committed, Configuration, CountsAreLow, Entry, FitsAtHome, Home, HomeIsKept, HubIsKept, Inside, IsKeptByModel, IsLegalWindow, IsTrue, IsWhole, Kind, List, Mark, None, NoneFails, OpenHub, Out, Place, Shown, Some, Stand, WindowIsClosed, [], all_home, ap, arith, at_place, common_steps, configuration_of, count_by, count_by-le-length, entries_of, false, grip_in, has_value, held_in, is_device, is_fall_of, is_weak, kind_at, left_at, left_size, length, length-map, map, nat_lt, not_quiet, open_of, option_map, point, point_of, probes_taken, progress_at, read_in, read_of, reading, refl, slice_get, slice_get-map, slice_get_within, slice_index_or, stand_at, standing_value, subst, sym, tells_call, told_calls, told_falls, true, ℕ, ◌*◌, ◌+◌, ◌<◌, ◌^◌, ◌∙◌, ◌≡◌, ◌≤◌}
 use Rattle.history_book.specs.declared.records.WindowRecord.{WindowRecord}
-use Rattle.home_types.specs.HomeStates.{stand_at}
-use Rattle.home_types.specs.Kinds.{has_value, kind_at}
-use Rattle.home_types.specs.declared.kinds.Kind.{Kind}
-use Rattle.home_types.specs.declared.worlds.Stand.{Stand}
 use Rattle.hub_core.proofs.calls.EndedRuns.{each_has_ended}
 use Rattle.hub_core.proofs.calls.HubChanges.{few_entries}
 use Rattle.hub_core.proofs.kept.Kept.{values_fit}
@@ -24,28 +12,7 @@ use Rattle.hub_core.proofs.weak.WeakClosings.{weak_ends, weak_legal_window, weak
 use Rattle.hub_core.proofs.weak.WeakProbes.{weak_standing}
 use Rattle.hub_core.proofs.windows.CalmHistories.{NoneFailed}
 use Rattle.hub_core.proofs.windows.Closings.{IsLastState, IsQuiet, ended_committed, legal_window, none_out, quiet_is, table_leaves}
-use Rattle.hub_core.specs.Homes.{CountsAreLow, HomeIsKept}
-use Rattle.hub_core.specs.HubCalls.{NoneFails, WindowIsClosed, probes_taken}
-use Rattle.hub_core.specs.HubsKept.{FitsAtHome, HubIsKept, IsWhole, open_of}
-use Rattle.hub_core.specs.KeptByModel.{IsKeptByModel}
-use Rattle.hub_core.specs.OpenHubs.{OpenHub, configuration_of, held_in}
-use Rattle.hub_core.specs.Steps.{not_quiet}
-use Rattle.hub_core.specs.declared.open_windows.OpenWindow.TheInside.{Inside}
-use Rattle.legal_days.proofs.Cited.{at_place}
-use Rattle.legal_days.specs.AccountedCalls.{CallsAreAccounted, tells_call, told_calls, told_falls}
 use Rattle.legal_days.specs.Agreement.{UpDevicesStand}
-use Rattle.legal_days.specs.LegalWindows.{IsLegalWindow}
-use Rattle.lock_leasing.specs.Configurations.{Configuration, point, point_of, read_of}
-use Rattle.lock_leasing.specs.Words.{standing_value}
-use Rattle.serial_line.specs.Marks.{Mark}
-use Rattle.std.proofs.Common.{ap, arith, refl, subst, sym, ◌∙◌}
-use Rattle.std.proofs.lemmas.Grind.{common_steps}
-use Rattle.std.proofs.lemmas.List.Sums.{count_by-le-length}
-use Rattle.std.proofs.lemmas.List.{length-map}
-use Rattle.std.proofs.lemmas.Option.{slice_get-map, slice_get_within}
-use Rattle.std.specs.Prelude.{Bool, IsTrue, List, None, Some, [], count_by, false, length, map, nat_lt, option_map, slice_get, slice_index_or, true, ℕ, ◌*◌, ◌+◌, ◌<◌, ◌^◌, ◌≡◌, ◌≤◌}
-use Rattle.window_devices.proofs.Cited.{left_at, left_size}
-use Rattle.window_devices.specs.KnownDevices.{grip_in, progress_at}
 use Rattle.window_devices.specs.LeftDevices.{HaveRisen, NoneFell, all_known_left}
 use Rattle.window_order.specs.Leavings.{IsEmptyFor, stand_left}
 

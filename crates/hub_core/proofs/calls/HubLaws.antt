@@ -1,43 +1,14 @@
 -- What holds of every hub, from what its type keeps.
-use Rattle.device_states.specs.Devices.{Shown}
+use Rattle.hub_core.proofs.Prelude.{AllHome, Bool, Commands, Configuration, DeviceNo, DeviceProgress, Home, HubIsKept, HubStands, IfNone, IfSome, IsBounded, IsFirstOut, IsTrue, List, None, OpenHub, Option, Out, Place, Purpose, Shown, Slip, Some, SomeRunMoves, Task, Waits, [], ap, arith, commands_of, common_steps, configuration_of, device_no, device_numbers, entries_of, false, find, find_first, find_none, grip_in, held_in, if◌then◌else◌, is_device, is_none, is_out, is_run, is_some, is_wait, length, nat_lt, next_of, not_quiet, opened, option_map, option_or, order_stands, progress_at, read_facts, read_of, refl, run_no, run_numbers, same_Some, shapes, slice_get, slice_get_within, slip_of, subst, suc, sym, true, zero, ℕ, ◌+◌, ◌<◌, ◌↔◌, ◌∙◌, ◌∷◌, ◌≡◌, ◌≤◌}
 use Rattle.hub_core.proofs.weak.WeakChoices.{weak_moves}
 use Rattle.hub_core.proofs.kept.KeptByModel.{by_model, stands_at_home}
-use Rattle.command_rules.specs.Rosters.{commands_of, device_no, is_run, run_no}
-use Rattle.device_gate.specs.Places.{AllHome, IsFirstOut, slip_of}
-use Rattle.device_gate.specs.declared.gates.Place.TheVariants.{Home, Out}
-use Rattle.device_gate.specs.declared.gates.Place.{Place}
-use Rattle.device_gate.specs.declared.slips.Slip.{Slip}
-use Rattle.device_gate.specs.declared.slips.Task.{Task}
-use Rattle.history_book.proofs.Cited.{shapes}
-use Rattle.history_book.specs.Histories.{entries_of}
-use Rattle.history_book.specs.Readings.{next_of}
-use Rattle.history_book.specs.Settings.{device_numbers, is_device, run_numbers}
-use Rattle.home_types.specs.declared.numbers.DeviceNo.{DeviceNo}
 use Rattle.hub_core.proofs.calls.HubChanges.{few_entries}
-use Rattle.window_devices.proofs.Cited.{find_first, find_none}
 use Rattle.hub_core.proofs.kept.ReturnsKept.{out_is}
 use Rattle.hub_core.proofs.windows.Progress.{some_run_moves}
-use Rattle.hub_core.specs.BlockedRuns.{is_wait}
 use Rattle.hub_core.proofs.kept.EndedOnce.{dooms_fit, ends_fit}
 use Rattle.hub_core.proofs.kept.Sizes.{history_fits, line_fits}
 use Rattle.hub_core.proofs.steps.Takes.{live_run}
-use Rattle.hub_core.specs.Bounds.{IsBounded}
-use Rattle.hub_core.specs.HubCalls.{HubStands, SomeRunMoves}
-use Rattle.hub_core.specs.HubsKept.{HubIsKept}
-use Rattle.hub_core.specs.OpenHubs.{OpenHub, configuration_of, held_in}
-use Rattle.window_devices.specs.KnownDevices.{grip_in, progress_at}
-use Rattle.lock_leasing.specs.declared.purposes.Purpose.TheVariants.{Commands}
-use Rattle.lock_leasing.specs.declared.purposes.Purpose.{Purpose}
-use Rattle.hub_core.specs.Steps.{Waits, not_quiet, opened}
-use Rattle.window_devices.specs.declared.known.DeviceProgress.{DeviceProgress}
 use Rattle.hub_core.specs.declared.refusals.NotQuiet.TheVariants.{StillLive, StillOut}
-use Rattle.lock_leasing.specs.Configurations.{Configuration, is_out, read_of}
-use Rattle.std.proofs.Common.{ap, arith, refl, subst, sym, ◌∙◌}
-use Rattle.std.proofs.lemmas.Grind.{common_steps}
-use Rattle.std.proofs.lemmas.Option.{same_Some, slice_get_within}
-use Rattle.std.specs.Option.{option_or}
-use Rattle.std.specs.Prelude.{Bool, IfNone, IfSome, IsTrue, List, None, Option, Some, [], false, find, if◌then◌else◌, is_none, is_some, length, nat_lt, option_map, slice_get, suc, true, zero, ℕ, ◌+◌, ◌<◌, ◌↔◌, ◌∷◌, ◌≡◌, ◌≤◌}
-use Rattle.window_order.proofs.Cited.{order_stands, read_facts}
 
 pub kept_at : {D : Type 0} (shows : D → Shown) (s t : OpenHub D) → s ≡ t → HubIsKept shows s → HubIsKept shows t
 kept_at {D = D} shows s t same k = subst (λ (x : OpenHub D). HubIsKept shows x) same k

@@ -1,37 +1,16 @@
 -- The runs that a hub has marked as blocked are blocked after each of its calls.
-use Rattle.device_states.specs.Devices.{Shown}
+use Rattle.hub_core.proofs.Prelude.{Absent, Answers, Bool, Carried, Choice, Configuration, DeviceGoesOut, Done, End, EndNoWait, Entry, Gave, Grip, Gripped, HandsOut, Home, HubIsKept, HubState, IsGiven, IsProbeGiven, IsProbed, IsTurn, List, Moves, None, Ok, OpenHub, Option, Out, Over, Place, Returned, SameWindow, Setting, Shown, Slip, Some, Task, Told, Waits, after_choice, after_give, after_take, ap, arith, at_moment, carried_by, carried_in, choice_of, configuration_of, decide, false, give_entries, give_if, grip_in, held_in, hub_state_of, is_quiet, is_weak, list_all, max, option_map, point_of, probe_grip, progress_at, put, read_of, refl, same_carried, slice_get, subst, sym, true, unwrap_or, with_entries, with_grip, ℕ, ◌&&◌, ◌-◌, ◌∙◌, ◌≡◌, ◌≢◌, ◌≤◌, ◌⊎◌}
 use Rattle.hub_core.specs.declared.turns.Turn.TheVariants.{Absent as TurnAbsent, Go, Moved, Over as TurnOver, Wait}
 use Rattle.hub_core.specs.declared.turns.Turn.{Turn}
-use Rattle.history_book.specs.Settings.{Setting, is_weak}
 use Rattle.hub_core.proofs.kept.BlockedMarks.{none_blocked}
-use Rattle.device_gate.specs.Grips.{Gripped}
-use Rattle.device_gate.specs.declared.grips.Done.{Done}
 use Rattle.device_gate.specs.declared.grips.Ready.{Ready}
-use Rattle.device_gate.specs.declared.slips.Slip.{Slip}
-use Rattle.device_gate.specs.declared.slips.Task.{Task}
-use Rattle.device_gate.specs.declared.slips.Told.{Told}
-use Rattle.device_gate.specs.declared.gates.Place.TheVariants.{Home, Out}
-use Rattle.device_gate.specs.declared.gates.Place.{Place}
-use Rattle.history_book.specs.declared.entries.End.{End}
-use Rattle.history_book.specs.declared.entries.Entry.{Entry}
-use Rattle.history_book.specs.Readings.{put}
 use Rattle.hub_core.proofs.steps.HubAnswers.{gave_back, gave_probe_back, took_after, took_choice, took_probe}
 use Rattle.hub_core.proofs.waiting.BlockedSteps.{IsKept, back, goes, left_stay, may_mark, moved, probed, reached, waits}
 use Rattle.hub_core.specs.BlockedMarks.{AreBlocked, AreFreedWeakly, MayBeMarked, is_waiting}
 use Rattle.blocked_runs.specs.Marks.{AreLeft, BlockedState, NoneMarked}
-use Rattle.hub_core.specs.BlockedRuns.{EndNoWait, is_quiet}
-use Rattle.hub_core.specs.HubCalls.{Answers, DeviceGoesOut, IsGiven, IsProbeGiven, IsProbed, IsTurn, SameWindow, carried_by}
-use Rattle.hub_core.specs.HubSteps.{Carried, Gave, HubState, Returned, give_if, is_kept as is_kept_grip, same_carried}
-use Rattle.hub_core.specs.HubsKept.{HubIsKept}
+use Rattle.hub_core.specs.HubSteps.{is_kept as is_kept_grip}
 use Rattle.hub_core.specs.MarkedRuns.{IsAnsweredStill, is_out_for_command}
-use Rattle.hub_core.specs.OpenHubs.{OpenHub, carried_in, configuration_of, held_in, hub_state_of}
-use Rattle.window_devices.specs.KnownDevices.{grip_in, progress_at}
-use Rattle.hub_core.specs.Steps.{Absent, Choice, HandsOut, Moves, Over, Waits, after_choice, after_give, after_take, at_moment, choice_of, decide, give_entries, probe_grip, with_entries, with_grip}
 use Rattle.hub_core.specs.declared.waits.Why.{Why}
-use Rattle.lock_leasing.specs.Configurations.{Configuration, Grip, point_of, read_of}
-use Rattle.std.proofs.Common.{ap, arith, refl, subst, sym, ◌∙◌}
-use Rattle.std.specs.List.{list_all}
-use Rattle.std.specs.Prelude.{Bool, List, None, Ok, Option, Some, false, max, option_map, slice_get, true, unwrap_or, ℕ, ◌&&◌, ◌-◌, ◌≡◌, ◌≢◌, ◌≤◌, ◌⊎◌}
 
 -- a hub whose parts are kept stands for a configuration that is kept
 pub is_kept : {D : Type 0} (shows : D → Shown) (s : OpenHub D) → is_weak s.setting.mode ≡ false → HubIsKept shows s → IsKept (configuration_of s)

@@ -1,45 +1,14 @@
 -- A window that opens: what the hub knows, and that it is as every hub is kept.
-use Rattle.command_rules.specs.Rosters.{plain_run, runs_of}
+use Rattle.hub_core.proofs.Prelude.{AreKnown, Bool, Configuration, CountsAreLow, DeviceNo, DeviceProgress, FitsAtHome, Grips, HasRoomLeft, HeldTokensAre, Home, HomeIsKept, HomeState, HubIsKept, IsKeptByModel, IsOpened, IsTrue, Kept, Kind, LineageState, List, Marked, MayOpen, None, OpenHub, Option, OrderIsBeside, Place, Setting, Shown, Some, Stand, There, [], all_home, ap, arith, configuration_of, false, has_value, held_in, if◌then◌else◌, kind_at, known_as, known_there, le-ltb, length, length-map, lt-ltb, most_entries, most_items, nat_lt, no_events, no_held_tokens, none_out, nowhere, opened, past_end, plain_run, progress_at, refl, replicate, runs_of, setting_for, slice_get, stand_at, subst, sym, there, true, unknown, ℕ, ◌∙◌, ◌≡◌, ◌≤◌}
 use Rattle.command_rules.specs.declared.rosters.Roster.{Roster}
 use Rattle.device_gate.proofs.Cited.{device_at as home_there, none_out as not_out}
-use Rattle.device_gate.specs.Places.{all_home}
-use Rattle.device_gate.specs.declared.gates.Place.TheVariants.{Home}
-use Rattle.device_gate.specs.declared.gates.Place.{Place}
-use Rattle.device_states.specs.Devices.{Shown}
-use Rattle.history_book.specs.Settings.{Setting}
-use Rattle.history_book.specs.declared.entries.Kept.{Kept}
-use Rattle.home_types.specs.HomeStates.{nowhere, stand_at}
-use Rattle.home_types.specs.Kinds.{has_value, kind_at}
-use Rattle.home_types.specs.declared.kinds.Kind.{Kind}
 use Rattle.home_types.specs.declared.modes.Mode.{Mode}
-use Rattle.home_types.specs.declared.numbers.DeviceNo.{DeviceNo}
-use Rattle.home_types.specs.declared.worlds.Stand.{Stand}
 use Rattle.hub_core.proofs.kept.KeptByModel.{starts_kept}
 use Rattle.hub_core.proofs.kept.OrderSteps.{order_begins}
-use Rattle.hub_core.specs.Bounds.{most_entries, most_items}
-use Rattle.hub_core.specs.Homes.{CountsAreLow, HomeIsKept, HomeState, setting_for}
-use Rattle.hub_core.specs.HubCalls.{IsOpened}
-use Rattle.hub_core.specs.HubsKept.{FitsAtHome, HasRoomLeft, HubIsKept}
-use Rattle.hub_core.specs.KeptByModel.{IsKeptByModel}
-use Rattle.hub_core.specs.OpenHubs.{OpenHub, configuration_of, held_in}
 use Rattle.hub_core.specs.OpeningRooms.{IsClosingRoom, IsOrderRoom, IsScratchFor}
-use Rattle.hub_core.specs.Openings.{MayOpen}
-use Rattle.hub_core.specs.OrderStates.{OrderIsBeside}
 use Rattle.hub_core.specs.PlannedPlaces.{IsForHome}
-use Rattle.hub_core.specs.Steps.{opened}
 use Rattle.hub_core.specs.declared.open_windows.ClosingLists.{ClosingLists}
-use Rattle.lineage_table.specs.Lineages.{LineageState}
-use Rattle.lock_leasing.specs.Configurations.{Configuration, Grips}
-use Rattle.serial_line.specs.Marks.{Marked}
-use Rattle.std.proofs.Common.{ap, arith, refl, subst, sym, ◌∙◌}
-use Rattle.std.proofs.lemmas.Bool.{le-ltb, lt-ltb}
-use Rattle.std.proofs.lemmas.List.{length-map}
-use Rattle.std.specs.Prelude.{Bool, IsTrue, List, None, Option, Some, [], false, if◌then◌else◌, length, nat_lt, replicate, slice_get, true, ℕ, ◌≡◌, ◌≤◌}
 use Rattle.timeline_scheduler.specs.Scratches.{ScratchRoom}
-use Rattle.window_devices.proofs.Cited.{There, known_as, known_there, no_held_tokens, none_out, past_end, there, unknown}
-use Rattle.window_devices.specs.Checkouts.{HeldTokensAre}
-use Rattle.window_devices.specs.KnownDevices.{AreKnown, no_events, progress_at}
-use Rattle.window_devices.specs.declared.known.DeviceProgress.{DeviceProgress}
 
 -- A window that opens
 

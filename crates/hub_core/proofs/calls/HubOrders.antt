@@ -2,36 +2,11 @@
 use Rattle.abort_rollback.specs.Undos.{has_effective_write, next_undo, undo_on}
 use Rattle.abort_rollback.specs.declared.undos.Undo.TheVariants.{Finished}
 use Rattle.command_rules.specs.Footprints.{FitsIndex}
-use Rattle.command_rules.specs.Rosters.{Run, command_at, commands_of, device_no, is_on, is_run, run_no, touches}
-use Rattle.device_gate.specs.Grips.{Gripped}
+use Rattle.hub_core.proofs.Prelude.{Aborted, All, Arrived, Bool, Cause, ChangesEach, Command, Commands, Committed, Configuration, ConfigurationIsKept, DeviceNo, DeviceProgress, Did, Doomed, Down, DownAtEnd, Ended, Entry, Gripped, Grips, GripsFit, HandsOut, HeldTokensAre, HistoryState, HoldsNone, Inside, IsClear, IsDisciplined, IsKeptByModel, IsNewOn, IsRead, IsRosterFor, IsSealed, IsSome, IsStandingOf, IsTrue, IsWhole, Item, LineageState, List, Mark, Marked, MarksAreKept, MayArrange, MayBeOut, MayNote, MayOpen, MayTake, Moves, MustDown, None, OpenHub, Option, OrderIsBeside, Placed, Planned, Probes, Purpose, Ran, Reading, Run, Scheduler, Setting, Shown, Some, TableIsKept, Task, Timeline, Undid, Undoes, WindowParts, [], accesses_at, and_parts, ap, ap₂, arith, arranged, below_home, choice_of, command_at, commands_of, committed_lineage, common_steps, configuration_of, device_no, doomed_lineage, drop, effective_writer, entries_made, entries_of, entry, eq-eqb, false, few_accesses, fits_other, front_for, gap_set, get_or, hand_goes, held_in, holds, holds_none, if◌then◌else◌, in_order, is_command, is_device, is_done_there, is_doomed, is_first, is_none, is_on, is_out, is_run, is_undo, is_weak, items_of, kind_at, length, length-append, length-map, line_for, line_length, lineage_at, live_stands, marks_without, max, may_follow, most_items, names_values_of, nat_lt, new_on, next_command, next_is_left, next_of, none_found, none_there, not, noted_first, open_of, option_map, order_stands, pends, planned_times, point, point_of, progress_at, put, put_other, range_with_len, read_facts, read_in, read_of, refl, removed, represents, run_hand, run_no, same_parts, scheduled_on, scheduled_with, scheduler_of, settling, slice_get-get_or, split_of, stands, subst, suc, sym, table_kept, take, take-append-drop, touches, touching, true, undone, unplaced_absent, unwrap_or, window_parts, with_doom, with_entry, with_item, with_lineage, with_more, zero, ℕ, ◌&&◌, ◌++◌, ◌+◌, ◌-◌, ◌<◌, ◌==◌, ◌||◌, ◌∙◌, ◌∷◌, ◌≡◌, ◌≤◌}
 use Rattle.device_gate.specs.declared.grips.Ready.{Ready}
-use Rattle.device_gate.specs.declared.slips.Task.{Task}
-use Rattle.device_states.specs.Devices.{Shown}
-use Rattle.history_book.proofs.Cited.{MayTake, line_length, put_other}
-use Rattle.history_book.specs.Gaps.{front_for, gap_set, line_for, split_of}
-use Rattle.history_book.specs.Histories.{entries_of, entry}
-use Rattle.history_book.specs.Plans.{planned_times}
 use Rattle.history_book.specs.Progress.{progress_of}
-use Rattle.history_book.specs.ReadHistories.{HistoryState, read_in, with_doom, with_entry, with_more}
-use Rattle.history_book.specs.Readings.{Planned, Reading, is_doomed, next_command, next_of, pends, put}
-use Rattle.history_book.specs.Settings.{Setting, is_device, is_weak, scheduler_of}
-use Rattle.history_book.specs.WellFormed.{may_follow}
-use Rattle.history_book.specs.declared.entries.Cause.TheVariants.{DownAtEnd, MustDown}
-use Rattle.history_book.specs.declared.entries.Cause.{Cause}
-use Rattle.history_book.specs.declared.entries.End.TheVariants.{Aborted, Committed}
-use Rattle.history_book.specs.declared.entries.Entry.TheVariants.{Arrived, Did, Doomed, Ended, Placed, Undid}
-use Rattle.history_book.specs.declared.entries.Entry.{Entry}
 use Rattle.history_book.specs.declared.progress.RunProgress.{RunProgress}
-use Rattle.home_types.specs.Commands.{holds}
-use Rattle.home_types.specs.Kinds.{kind_at}
-use Rattle.home_types.specs.declared.commands.Answer.TheVariants.{Down}
-use Rattle.home_types.specs.declared.commands.Command.{Command}
 use Rattle.home_types.specs.declared.commands.View.TheVariants.{Down as ViewedDown}
-use Rattle.home_types.specs.declared.items.Item.TheVariants.{Ran}
-use Rattle.home_types.specs.declared.items.Item.{Item}
-use Rattle.home_types.specs.declared.modes.Scheduler.TheVariants.{Timeline}
-use Rattle.home_types.specs.declared.modes.Scheduler.{Scheduler}
-use Rattle.home_types.specs.declared.numbers.DeviceNo.{DeviceNo}
 use Rattle.hub_core.proofs.calls.Departures.{gone_grips, gone_whole}
 use Rattle.hub_core.proofs.calls.HubChanges.{Ending, Going, IsEntered, answer_entries, answered_more, entered_whole, entries_kept, has_places, takes_here}
 use Rattle.hub_core.proofs.calls.HubChoices.{IsAborting, IsAnsweringDown, IsFailing, answering, dropping, failing, finished_is, rest_downs}
@@ -49,47 +24,13 @@ use Rattle.hub_core.proofs.kept.TableFits.{counted_told, either_model}
 use Rattle.hub_core.proofs.steps.Choices.{known_by}
 use Rattle.hub_core.proofs.steps.Takes.{live_run}
 use Rattle.hub_core.proofs.windows.StrongChoices.{IsPlacing}
-use Rattle.hub_core.specs.Bounds.{most_items}
-use Rattle.hub_core.specs.HubKept.{ConfigurationIsKept}
-use Rattle.hub_core.specs.HubsKept.{IsWhole, open_of}
-use Rattle.hub_core.specs.KeptByModel.{IsKeptByModel}
-use Rattle.hub_core.specs.OrderStates.{OrderIsBeside}
-use Rattle.window_order.specs.OrderStates.{IsSealed, MayArrange, MayNote, arranged, is_first, noted_first, scheduled_with}
-use Rattle.lock_leasing.specs.declared.purposes.Purpose.TheVariants.{Commands, Probes, Undoes}
-use Rattle.lock_leasing.specs.declared.purposes.Purpose.{Purpose}
-use Rattle.hub_core.specs.OpenHubs.{OpenHub, configuration_of, held_in}
-use Rattle.hub_core.specs.Openings.{MayOpen, names_values_of}
 use Rattle.hub_core.specs.PlannedPlaces.{HoldsPlan, IsForHome}
 use Rattle.timeline_scheduler.specs.PlannedUses.{AreUsesOf}
-use Rattle.hub_core.specs.Steps.{HandsOut, Moves, choice_of}
 use Rattle.hub_core.specs.WeakSteps.{weak_rest}
 use Rattle.window_order.specs.declared.order_states.OrderState.{OrderState}
-use Rattle.hub_core.specs.declared.open_windows.OpenWindow.TheInside.{Inside}
 use Rattle.history_book.specs.declared.planned_uses.PlannedUse.{PlannedUse}
-use Rattle.lineage_table.specs.Accesses.{IsDisciplined, effective_writer}
-use Rattle.lineage_table.specs.Lineages.{LineageState, accesses_at, committed_lineage, lineage_at, removed, undone, with_lineage}
-use Rattle.lock_leasing.proofs.Cited.{next_is_left}
-use Rattle.lock_leasing.specs.Configurations.{Configuration, Grips, is_command, is_out, is_undo, point, point_of, read_of}
-use Rattle.lock_leasing.specs.Places.{GripsFit, IsClear, MayBeOut, in_order}
-use Rattle.lock_leasing.specs.Standings.{IsRosterFor, IsStandingOf, WindowParts, window_parts}
-use Rattle.serial_line.specs.Marks.{Mark, Marked, items_of, marks_without, settling, stands, touching, with_item}
-use Rattle.std.proofs.Common.{ap, ap₂, arith, length-append, refl, subst, sym, ◌∙◌}
-use Rattle.std.proofs.lemmas.Bool.{and_parts, eq-eqb}
-use Rattle.std.proofs.lemmas.Grind.{common_steps}
-use Rattle.std.proofs.lemmas.List.{length-map, take-append-drop}
-use Rattle.std.proofs.lemmas.Option.{slice_get-get_or}
-use Rattle.std.specs.List.{All, range_with_len}
-use Rattle.std.specs.Prelude.{Bool, IsSome, IsTrue, List, None, Option, Some, [], drop, false, get_or, if◌then◌else◌, is_none, length, max, nat_lt, not, option_map, suc, take, true, unwrap_or, zero, ℕ, ◌&&◌, ◌++◌, ◌+◌, ◌-◌, ◌<◌, ◌==◌, ◌||◌, ◌∷◌, ◌≡◌, ◌≤◌}
 use Rattle.timeline_scheduler.specs.Scratches.{HoldsTimes, ScratchRoom}
-use Rattle.window_order.proofs.Cited.{HoldsNone, IsRead, below_home, few_accesses, fits_other, holds_none, live_stands, new_on, order_stands, read_facts, read_kept as read_rearranged, represents, same_parts, table_kept, unplaced_absent}
-use Rattle.window_order.specs.MarksKept.{MarksAreKept}
-use Rattle.window_order.specs.TableChanges.{ChangesEach, IsNewOn, doomed_lineage, is_done_there, scheduled_on}
-use Rattle.window_order.specs.TableKept.{TableIsKept}
-use Rattle.history_book.specs.Packed.{entries_made}
-use Rattle.window_devices.proofs.Cited.{hand_goes, none_found, none_there, run_hand}
-use Rattle.window_devices.specs.Checkouts.{HeldTokensAre}
-use Rattle.window_devices.specs.KnownDevices.{progress_at}
-use Rattle.window_devices.specs.declared.known.DeviceProgress.{DeviceProgress}
+use Rattle.window_order.proofs.Cited.{read_kept as read_rearranged}
 
 -- What is kept of the hub's history
 

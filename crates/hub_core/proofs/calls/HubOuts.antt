@@ -1,47 +1,11 @@
 -- A device that goes out keeps what the type of a hub keeps.
-use Rattle.command_rules.specs.Rosters.{command_at, commands_of, device_no, is_run}
-use Rattle.device_gate.specs.Calls.{probed}
-use Rattle.device_gate.specs.Grips.{Gripped}
-use Rattle.device_gate.specs.Places.{IsHome}
-use Rattle.device_gate.specs.declared.gates.Place.TheVariants.{Home, Out}
+use Rattle.hub_core.proofs.Prelude.{Bool, Chose, Command, Commands, Configuration, DeviceGoesOut, DeviceNo, DeviceProgress, Gripped, HandsOut, Home, HubIsKept, HubStep, Inside, IsHome, IsKeptByModel, IsSent, IsTrue, IsWhole, MaySend, None, OpenHub, Out, Probes, Purpose, SameWindow, Shown, Slip, Some, Take, Task, Undoes, after_choice, answers_down, ap, ap₂, arith, at_moment, below_home, busy_wait, carried_after, choice_of, command_at, commands_of, common_steps, configuration_of, device_no, driven, false, grip_wait, has_effect, held_in, hub_state_of, if◌then◌else◌, is_device, is_doomed, is_live, is_out, is_run, is_some, is_weak, kind_at, length, max, names_values_of, nat_lt, next_command, next_of, not, open_of, point_of, probed, progress_at, put, put_at, read_of, reads, refl, run_above, run_place, sees_down, slice_get, slice_get_within, slice_set, subst, sym, task_of, true, value_without, with_grip, ℕ, ◌&&◌, ◌<◌, ◌||◌, ◌∙◌, ◌≡◌}
 use Rattle.device_gate.specs.declared.grips.Ready.{Ready}
-use Rattle.device_gate.specs.declared.slips.Slip.{Slip}
 use Rattle.device_gate.specs.declared.slips.Task.TheVariants.{Drive, Sense}
-use Rattle.device_gate.specs.declared.slips.Task.{Task}
-use Rattle.device_states.specs.Devices.{Shown}
-use Rattle.history_book.proofs.Cited.{run_place}
-use Rattle.history_book.specs.Readings.{is_doomed, is_live, next_command, next_of, put, sees_down}
-use Rattle.history_book.specs.Settings.{is_device, is_weak}
-use Rattle.home_types.specs.Commands.{driven, reads}
-use Rattle.home_types.specs.Kinds.{kind_at}
-use Rattle.home_types.specs.declared.commands.Command.{Command}
-use Rattle.home_types.specs.declared.numbers.DeviceNo.{DeviceNo}
 use Rattle.hub_core.proofs.calls.Departures.{IsGone, few_tickets, gone, gone_carries, gone_configuration, gone_next, gone_shows, gone_window, gone_within, has_room, home_place, one_for}
 use Rattle.hub_core.proofs.calls.HubChanges.{step_is}
-use Rattle.window_devices.proofs.Cited.{put_at, run_above}
 use Rattle.hub_core.proofs.kept.KeptByModel.{taken_kept}
 use Rattle.hub_core.proofs.steps.Choices.{Commanding, Known, known_by}
-use Rattle.window_devices.specs.Checkouts.{IsSent, MaySend}
-use Rattle.hub_core.specs.HubCalls.{DeviceGoesOut, SameWindow}
-use Rattle.hub_core.specs.HubSteps.{Chose, HubStep, Take, carried_after, task_of}
-use Rattle.hub_core.specs.HubsKept.{HubIsKept, IsWhole, open_of}
-use Rattle.hub_core.specs.KeptByModel.{IsKeptByModel}
-use Rattle.hub_core.specs.OpenHubs.{OpenHub, configuration_of, held_in, hub_state_of}
-use Rattle.window_devices.specs.KnownDevices.{progress_at}
-use Rattle.lock_leasing.specs.declared.purposes.Purpose.TheVariants.{Commands, Probes, Undoes}
-use Rattle.lock_leasing.specs.declared.purposes.Purpose.{Purpose}
-use Rattle.hub_core.specs.Openings.{names_values_of}
-use Rattle.hub_core.specs.Steps.{HandsOut, after_choice, answers_down, at_moment, choice_of, with_grip}
-use Rattle.window_devices.specs.declared.known.DeviceProgress.{DeviceProgress}
-use Rattle.hub_core.specs.declared.open_windows.OpenWindow.TheInside.{Inside}
-use Rattle.lock_leasing.specs.Configurations.{Configuration, is_out, point_of, read_of}
-use Rattle.lock_leasing.specs.Waits.{busy_wait, grip_wait}
-use Rattle.lock_leasing.specs.Words.{has_effect, value_without}
-use Rattle.std.proofs.Common.{ap, ap₂, arith, refl, subst, sym, ◌∙◌}
-use Rattle.std.proofs.lemmas.Grind.{common_steps}
-use Rattle.std.proofs.lemmas.Option.{slice_get_within}
-use Rattle.std.specs.Prelude.{Bool, IsTrue, None, Some, false, if◌then◌else◌, is_some, length, max, nat_lt, not, slice_get, slice_set, true, ℕ, ◌&&◌, ◌<◌, ◌||◌, ◌≡◌}
-use Rattle.window_order.proofs.Cited.{below_home}
 
 -- Why it goes
 

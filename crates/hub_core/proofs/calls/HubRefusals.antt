@@ -1,17 +1,7 @@
 -- A grip that is not taken in, and a probe that is not handed out.
-use Rattle.device_gate.specs.Grips.{Gripped}
-use Rattle.device_gate.specs.Places.{IsKept, slip_of}
-use Rattle.device_gate.specs.declared.grips.Done.{Done}
+use Rattle.hub_core.proofs.Prelude.{Bool, Done, Err, Gripped, IsGiven, IsKept, IsProbeGiven, OpenHub, Refused, Returned, RunGiven, and-false, ap, at_moment, carried_by, configuration_of, false, give, give_if, give_probe, hub_state_of, is_kept, nat_lt, ne_eqb, refl, slice_get, slip_of, stranger, subst, sym, true, ℕ, ◌&&◌, ◌==◌, ◌∙◌, ◌≡◌, ◌≢◌}
 use Rattle.device_gate.specs.declared.strangers.Stranger.{Stranger}
 use Rattle.hub_core.proofs.calls.HubStates.{is_kept_there, slip_carried}
-use Rattle.hub_core.specs.HubCalls.{IsGiven, IsProbeGiven, carried_by}
-use Rattle.hub_core.specs.HubSteps.{Refused, Returned, RunGiven, give, give_if, give_probe, is_kept, stranger}
-use Rattle.hub_core.specs.OpenHubs.{OpenHub, configuration_of, hub_state_of}
-use Rattle.hub_core.specs.Steps.{at_moment}
-use Rattle.std.proofs.Common.{ap, refl, subst, sym, ◌∙◌}
-use Rattle.std.proofs.Math.Bool.{and-false}
-use Rattle.std.proofs.lemmas.Bool.{ne_eqb}
-use Rattle.std.specs.Prelude.{Bool, Err, false, nat_lt, slice_get, true, ℕ, ◌&&◌, ◌==◌, ◌≡◌, ◌≢◌}
 
 -- the stranger is the hub's
 stranger_is : {D : Type 0} (s : OpenHub D) (grip : Gripped D Done) (x : Stranger) → x.kept ≡ slip_of (slice_get s.places grip.slip.device.0) → x.told ≡ grip.slip → x ≡ stranger (hub_state_of s) (carried_by grip)

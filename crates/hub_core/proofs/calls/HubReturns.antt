@@ -1,42 +1,9 @@
 -- A run's grip comes back, and its call worked: what the code writes of it.
-use Rattle.command_rules.specs.Rosters.{command_at, is_run, run_no}
-use Rattle.device_gate.specs.Calls.{answer_told, has_died}
-use Rattle.device_gate.specs.Grips.{Gripped}
-use Rattle.device_gate.specs.Places.{IsKept}
-use Rattle.device_gate.specs.declared.grips.Done.{Done}
-use Rattle.device_gate.specs.declared.slips.Slip.{Slip}
-use Rattle.device_gate.specs.declared.slips.Task.{Task}
-use Rattle.device_gate.specs.declared.slips.Told.TheVariants.{Died, Sensed, Worked}
-use Rattle.device_gate.specs.declared.slips.Told.{Told}
-use Rattle.device_states.specs.Devices.{Shown}
-use Rattle.history_book.proofs.Cited.{MayTake, takes_first}
-use Rattle.history_book.specs.ReadHistories.{HistoryState, read_in, with_doom, with_entry, with_more}
-use Rattle.history_book.specs.Readings.{Reading, is_doomed}
-use Rattle.history_book.specs.Settings.{Setting}
-use Rattle.history_book.specs.WellFormed.{may_follow}
-use Rattle.history_book.specs.declared.entries.Cause.TheVariants.{Refuted}
-use Rattle.history_book.specs.declared.entries.Cause.{Cause}
-use Rattle.history_book.specs.declared.entries.Entry.TheVariants.{Did, Doomed, Undid}
-use Rattle.history_book.specs.declared.entries.Entry.{Entry}
-use Rattle.home_types.specs.Commands.{fails}
-use Rattle.home_types.specs.declared.commands.Answer.TheVariants.{Found}
-use Rattle.home_types.specs.declared.commands.Answer.{Answer}
+use Rattle.hub_core.proofs.Prelude.{Answer, Bool, Cause, Commands, Did, Died, Done, Doomed, Entry, Found, Gripped, HistoryState, Inside, IsKept, IsSome, IsTrue, IsWhole, List, MayTake, None, OpenHub, Option, Probes, Purpose, Reading, Refuted, Sensed, Setting, Shown, Slip, Some, Task, Told, Undid, Undoes, Worked, [], answer_told, ap, ap₂, arith, command_at, entries_made, fails, false, give_entries, has_died, if◌then◌else◌, is_doomed, is_run, is_undo, length, lt-ltb, may_follow, not, open_of, option_map, progress_at, read_in, refl, run_no, slice_get, subst, sym, takes_first, true, with_doom, with_entry, with_more, ℕ, ◌&&◌, ◌-◌, ◌<◌, ◌∙◌, ◌∷◌, ◌≡◌, ◌≤◌}
 use Rattle.hub_core.proofs.calls.Homecomings.{CameHome, IsHome, IsReturned, returned_entries, returned_for, returned_places, takes_back}
 use Rattle.hub_core.proofs.calls.HubChanges.{answer_entries, answered_more}
 use Rattle.hub_core.proofs.calls.OutFor.{IsForCommand, for_command, out_for}
 use Rattle.history_book.specs.Causes.{refuted_by}
-use Rattle.hub_core.specs.HubsKept.{IsWhole, open_of}
-use Rattle.hub_core.specs.OpenHubs.{OpenHub}
-use Rattle.window_devices.specs.KnownDevices.{progress_at}
-use Rattle.lock_leasing.specs.declared.purposes.Purpose.TheVariants.{Commands, Probes, Undoes}
-use Rattle.lock_leasing.specs.declared.purposes.Purpose.{Purpose}
-use Rattle.hub_core.specs.Steps.{give_entries}
-use Rattle.hub_core.specs.declared.open_windows.OpenWindow.TheInside.{Inside}
-use Rattle.lock_leasing.specs.Configurations.{is_undo}
-use Rattle.std.proofs.Common.{ap, ap₂, arith, refl, subst, sym, ◌∙◌}
-use Rattle.std.proofs.lemmas.Bool.{lt-ltb}
-use Rattle.std.specs.Prelude.{Bool, IsSome, IsTrue, List, None, Option, Some, [], false, if◌then◌else◌, length, not, option_map, slice_get, true, ℕ, ◌&&◌, ◌-◌, ◌<◌, ◌∷◌, ◌≡◌, ◌≤◌}
-use Rattle.history_book.specs.Packed.{entries_made}
 
 -- For what it was out
 

@@ -1,19 +1,7 @@
 -- What a hub shows when a device goes out or comes home.
-use Rattle.device_gate.specs.Places.{IsKept, slip_of}
-use Rattle.device_gate.specs.declared.gates.Place.TheVariants.{Home, Out}
-use Rattle.device_gate.specs.declared.gates.Place.{Place}
-use Rattle.device_gate.specs.declared.slips.Slip.{Slip}
+use Rattle.hub_core.proofs.Prelude.{Carried, Home, IsKept, List, None, OpenHub, Option, Out, Place, Slip, Some, Task, ap, arith, carried_in, common_steps, eqb-true, false, hub_state_of, is_kept, length, option_map, place_here, place_there, put, put_at, refl, same_carried, same_optional, same_slip, same_task, slice_get, slice_set, slip_of, sym, true, unwrap_or, ℕ, ◌<◌, ◌∙◌, ◌≡◌}
 use Rattle.device_gate.specs.declared.slips.Task.TheVariants.{Drive, Probe, Sense}
-use Rattle.device_gate.specs.declared.slips.Task.{Task}
-use Rattle.history_book.specs.Readings.{put}
 use Rattle.hub_core.proofs.steps.HubAnswers.{same_self}
-use Rattle.hub_core.specs.HubSteps.{Carried, is_kept, same_carried, same_optional, same_slip, same_task}
-use Rattle.hub_core.specs.OpenHubs.{OpenHub, carried_in, hub_state_of}
-use Rattle.std.proofs.Common.{ap, arith, refl, sym, ◌∙◌}
-use Rattle.std.proofs.lemmas.Bool.{eqb-true}
-use Rattle.std.proofs.lemmas.Grind.{common_steps}
-use Rattle.std.specs.Prelude.{List, None, Option, Some, false, length, option_map, slice_get, slice_set, true, unwrap_or, ℕ, ◌<◌, ◌≡◌}
-use Rattle.window_devices.proofs.Cited.{place_here, place_there, put_at}
 
 -- what the grips carry when a place was set
 pub carried_set : {D : Type 0} (places : List (Place D)) (d : ℕ) (x : Place D) → d < length places

@@ -1,12 +1,8 @@
 -- The devices that were built, and one more.
-use Rattle.device_states.specs.Devices.{Shown}
+use Rattle.hub_core.proofs.Prelude.{AreNew, IsNew, List, Shown, [], ap, arith, get_or, inl, inr, length, length-take-le, slice_get_within, subst, sym, take, take_more, ℕ, ◌++◌, ◌+◌, ◌<◌, ◌∙◌, ◌∷◌, ◌≡◌}
 use Rattle.home_types.proofs.Cited.{snoc_get}
-use Rattle.hub_core.specs.Homes.{AreNew, IsNew}
 use Rattle.routine_reader.specs.declared.scripts.DeviceText.{DeviceText}
-use Rattle.std.proofs.Common.{ap, arith, get_or, inl, inr, subst, sym, ◌∙◌}
-use Rattle.std.proofs.lemmas.List.{length-append, length-take-le, take_more}
-use Rattle.std.proofs.lemmas.Option.{slice_get_within}
-use Rattle.std.specs.Prelude.{List, [], length, take, ℕ, ◌+◌, ◌++◌, ◌<◌, ◌∷◌, ◌≡◌}
+use Rattle.std.proofs.lemmas.List.{length-append}
 
 pub new_more : {D : Type 0} (shows : D → Shown) (texts : List DeviceText) (devices : List D) (text : DeviceText) (device : D)
     → AreNew shows texts devices → IsNew shows text (length devices) device

@@ -1,22 +1,12 @@
 -- A new home is as every home is kept.
-use Rattle.device_states.specs.Devices.{Shown}
-use Rattle.home_types.specs.HomeStates.{nowhere, stand_at}
-use Rattle.home_types.specs.Kinds.{has_value, kind_at}
+use Rattle.hub_core.proofs.Prelude.{AreNew, HomeIsKept, IsNew, IsTrue, Kind, List, Shown, Some, Stand, ap, arith, at_place, get_or, get_or-map, get_or_from_slice_get, has_value, kind_at, length, length-map, map, nowhere, slice_get, slice_get_within, stand_at, subst, sym, true, ℕ, ◌<◌, ◌∙◌, ◌≡◌, ◌≤◌}
 use Rattle.home_types.specs.declared.kinds.Kind.TheVariants.{States}
-use Rattle.home_types.specs.declared.kinds.Kind.{Kind}
-use Rattle.home_types.specs.declared.worlds.Stand.{Stand}
-use Rattle.hub_core.specs.Homes.{AreNew, HomeIsKept, IsNew}
-use Rattle.legal_days.proofs.Cited.{at_place}
 use Rattle.legal_days.specs.Agreement.{UpDevicesStand}
 use Rattle.routine_reader.specs.Rosters.{kinds_of, start_home, start_stand}
 use Rattle.routine_reader.specs.Scripts.{PlainDevice, plain_device, plain_script}
 use Rattle.routine_reader.specs.Sound.{IsSound}
 use Rattle.routine_reader.specs.declared.scripts.DeviceText.{DeviceText}
 use Rattle.routine_reader.specs.declared.scripts.Script.{Script}
-use Rattle.std.proofs.Common.{ap, arith, get_or, subst, sym, ◌∙◌}
-use Rattle.std.proofs.lemmas.List.{get_or-map, length-map}
-use Rattle.std.proofs.lemmas.Option.{get_or_from_slice_get, slice_get_within}
-use Rattle.std.specs.Prelude.{IsTrue, List, Some, length, map, slice_get, true, ℕ, ◌<◌, ◌≡◌, ◌≤◌}
 
 -- the item of a list of which each was made of one
 made_of : {X Y : Type 0} (f : X → Y) (xs : List X) (i : ℕ) (x : X) (e : Y) → slice_get xs i ≡ Some x → get_or (map f xs) i e ≡ f x

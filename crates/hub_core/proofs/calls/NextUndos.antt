@@ -2,20 +2,8 @@
 use Rattle.abort_rollback.specs.Undos.{first_effective, has_effective_write, next_undo, stand_without, undo_on}
 use Rattle.abort_rollback.specs.declared.undos.Undo.TheVariants.{Drive, Drop, Finished}
 use Rattle.abort_rollback.specs.declared.undos.Undo.{Undo}
-use Rattle.command_rules.specs.Rosters.{device_no, touches}
-use Rattle.history_book.proofs.Cited.{each_found, own_devices}
-use Rattle.history_book.specs.Readings.{is_live}
-use Rattle.history_book.specs.Settings.{devices_of, is_device}
-use Rattle.lineage_table.specs.Lineages.{lineage_at}
-use Rattle.lock_leasing.proofs.Cited.{Facts, facts_of, next_device, stands_without, writes_last}
-use Rattle.lock_leasing.specs.Configurations.{Configuration, Point, point_of, read_of}
-use Rattle.lock_leasing.specs.Standings.{IsStandingOf, WindowParts}
-use Rattle.lock_leasing.specs.Tables.{IsLineageOf}
-use Rattle.lock_leasing.specs.Words.{has_effect, next_undo_of, value_without}
-use Rattle.std.proofs.Common.{ap, arith, refl, ◌∙◌}
-use Rattle.std.proofs.lemmas.Grind.{common_steps}
-use Rattle.std.specs.List.{range_with_len}
-use Rattle.std.specs.Prelude.{None, Option, Some, find, if◌then◌else◌, option_map, true, unwrap_or, ℕ, ◌≡◌}
+use Rattle.hub_core.proofs.Prelude.{Configuration, Facts, IsLineageOf, IsStandingOf, None, Option, Point, Some, WindowParts, ap, arith, common_steps, device_no, devices_of, each_found, facts_of, find, has_effect, if◌then◌else◌, is_device, is_live, lineage_at, next_undo_of, option_map, own_devices, point_of, range_with_len, read_of, refl, stands_without, touches, true, unwrap_or, value_without, writes_last, ℕ, ◌∙◌, ◌≡◌}
+use Rattle.lock_leasing.proofs.Cited.{next_device}
 
 -- what the configuration says of the next undo
 abbrev pub undo_of : Point → ℕ → Undo

@@ -1,49 +1,14 @@
 -- For what a device is out, and what it brings home.
-use Rattle.command_rules.specs.Rosters.{command_at, commands_of, is_run}
-use Rattle.device_gate.specs.Calls.{held_after, is_counted_up, may_tell, turns_of, value_after}
-use Rattle.device_gate.specs.Grips.{Gripped}
-use Rattle.device_gate.specs.Places.{IsKept}
-use Rattle.device_gate.specs.declared.gates.Place.TheVariants.{Out}
-use Rattle.device_gate.specs.declared.grips.Done.{Done}
-use Rattle.device_gate.specs.declared.slips.Slip.{Slip}
+use Rattle.hub_core.proofs.Prelude.{Bool, Command, Commands, Configuration, Died, Done, Entry, FitsOut, Gripped, HubIsKept, IsKept, IsRead, IsTrue, Kind, List, None, OpenHub, Option, Out, Probes, Purpose, Reading, Sensed, Setting, Shown, Slip, Some, Task, Told, Undoes, Worked, ap, arith, below_home, command_at, command_task, commands_of, common_steps, configuration_of, driven, entries_of, eqb-true, false, give_entries, grip_in, has_value, has_written, held_after, held_in, if◌then◌else◌, is_counted_up, is_device, is_doomed, is_live, is_none, is_of_run, is_run, kind_at, length, may_tell, names_values_of, nat_lt, next_of, not, progress_at, read_facts, read_of, reads, refl, run_above, slice_get_within, subst, sym, task_of, true, turns_of, value_after, ℕ, ◌&&◌, ◌<◌, ◌∙◌, ◌≡◌, ◌≤◌}
 use Rattle.device_gate.specs.declared.slips.Task.TheVariants.{Drive, Probe, Sense}
-use Rattle.device_gate.specs.declared.slips.Task.{Task}
-use Rattle.device_gate.specs.declared.slips.Told.TheVariants.{Died, Sensed, Worked}
-use Rattle.device_gate.specs.declared.slips.Told.{Told}
-use Rattle.device_states.specs.Devices.{Shown}
-use Rattle.history_book.specs.Histories.{entries_of}
-use Rattle.history_book.specs.Readings.{Reading, has_written, is_doomed, is_live, next_of}
-use Rattle.history_book.specs.Settings.{Setting, is_device}
-use Rattle.history_book.specs.declared.entries.Entry.{Entry}
-use Rattle.home_types.specs.Commands.{driven, reads}
-use Rattle.home_types.specs.Kinds.{has_value, kind_at}
-use Rattle.home_types.specs.declared.commands.Command.{Command}
 use Rattle.home_types.specs.declared.commands.Job.TheVariants.{Check, Load, Set, Store}
 use Rattle.home_types.specs.declared.commands.Job.{Job}
-use Rattle.home_types.specs.declared.kinds.Kind.{Kind}
 use Rattle.hub_core.proofs.calls.Departures.{one_for}
 use Rattle.hub_core.proofs.kept.KeptByModel.{probe_counted, restored_fits, undo_ordered}
 use Rattle.hub_core.proofs.kept.ReturnsKept.{BringsFor, IsOut, out_is}
 use Rattle.hub_core.proofs.kept.WrittenValues.{nearest_has}
 use Rattle.hub_core.proofs.steps.Calls.{IsOutFor, calls_for, is_up_for}
 use Rattle.hub_core.proofs.steps.Takes.{command_is, live_run}
-use Rattle.hub_core.specs.HubKept.{is_of_run}
-use Rattle.hub_core.specs.HubSteps.{command_task, task_of}
-use Rattle.hub_core.specs.HubsKept.{FitsOut, HubIsKept}
-use Rattle.hub_core.specs.OpenHubs.{OpenHub, configuration_of, held_in}
-use Rattle.lock_leasing.specs.declared.purposes.Purpose.TheVariants.{Commands, Probes, Undoes}
-use Rattle.lock_leasing.specs.declared.purposes.Purpose.{Purpose}
-use Rattle.hub_core.specs.Openings.{names_values_of}
-use Rattle.hub_core.specs.Steps.{give_entries}
-use Rattle.lock_leasing.specs.Configurations.{Configuration, read_of}
-use Rattle.std.proofs.Common.{ap, arith, refl, subst, sym, ◌∙◌}
-use Rattle.std.proofs.lemmas.Bool.{eqb-true}
-use Rattle.std.proofs.lemmas.Grind.{common_steps}
-use Rattle.std.proofs.lemmas.Option.{slice_get_within}
-use Rattle.std.specs.Prelude.{Bool, IsTrue, List, None, Option, Some, false, if◌then◌else◌, is_none, length, nat_lt, not, true, ℕ, ◌&&◌, ◌<◌, ◌≡◌, ◌≤◌}
-use Rattle.window_order.proofs.Cited.{IsRead, below_home, read_facts}
-use Rattle.window_devices.proofs.Cited.{run_above}
-use Rattle.window_devices.specs.KnownDevices.{grip_in, progress_at}
 
 -- For what it is out
 

@@ -1,33 +1,12 @@
 -- Where the code places a run is where the scheduler does.
 use Rattle.command_rules.specs.ClosedSets.{chosen}
-use Rattle.command_rules.specs.Rosters.{followed_by, is_run, run_no}
-use Rattle.history_book.proofs.Cited.{none_is}
-use Rattle.history_book.specs.Gaps.{front_for, gap_set}
-use Rattle.history_book.specs.Lines.{Split, split_at}
-use Rattle.history_book.specs.Plans.{planned_times}
-use Rattle.history_book.specs.Readings.{Reading}
-use Rattle.history_book.specs.Settings.{Setting, scheduler_of}
-use Rattle.history_book.specs.declared.entries.Entry.TheVariants.{Placed}
-use Rattle.home_types.specs.declared.items.Item.{Item}
-use Rattle.home_types.specs.declared.modes.Scheduler.TheVariants.{Timeline}
-use Rattle.home_types.specs.declared.numbers.RunNo.{RunNo}
+use Rattle.hub_core.proofs.Prelude.{At, Configuration, IsEarliestSet, IsFittingSet, IsTrue, IsTurn, Item, List, MayOpen, Moves, None, OpenHub, Option, Placed, Placing, PlansEarliest, Reading, RunNo, SameWindow, Setting, Some, Split, Timeline, [], ap, arith, choice_of, common_steps, configuration_of, followed_by, front_for, gap_is_earliest, gap_least, gap_set, is_run, length, max, most_items, nat_lt, none_is, place_choice, planned_times, point_of, read_of, refl, run_no, scheduled_place, scheduler_of, split_at, subst, sym, take, timeline, true, ℕ, ◌&&◌, ◌<◌, ◌∙◌, ◌∷◌, ◌≡◌, ◌≤◌}
 use Rattle.hub_core.proofs.kept.Sizes.{run_there, run_within}
 use Rattle.hub_core.proofs.steps.Choices.{known_by}
-use Rattle.hub_core.specs.Bounds.{most_items}
-use Rattle.hub_core.specs.HubCalls.{IsTurn, PlansEarliest, SameWindow}
-use Rattle.hub_core.specs.OpenHubs.{OpenHub, configuration_of}
-use Rattle.hub_core.specs.Openings.{MayOpen}
 use Rattle.hub_core.specs.PlannedPlaces.{HasSameRoom, HoldsGap, IsForHome}
-use Rattle.hub_core.specs.Steps.{Moves, choice_of, place_choice}
 use Rattle.hub_core.specs.declared.turns.Turn.TheVariants.{Absent, Go, Moved, Over, Wait}
 use Rattle.hub_core.specs.declared.turns.Turn.{Turn}
-use Rattle.lock_leasing.proofs.Cited.{gap_is_earliest, gap_least}
-use Rattle.lock_leasing.specs.Configurations.{Configuration, point_of, read_of}
-use Rattle.lock_leasing.specs.Places.{At, IsEarliestSet, IsFittingSet, Placing, scheduled_place, timeline}
-use Rattle.std.proofs.Common.{ap, arith, refl, subst, sym, ◌∙◌}
-use Rattle.std.proofs.lemmas.Grind.{common_steps}
 use Rattle.std.specs.Option.{IfSome}
-use Rattle.std.specs.Prelude.{IsTrue, List, None, Option, Some, [], length, max, nat_lt, take, ℕ, true, ◌&&◌, ◌<◌, ◌∷◌, ◌≡◌, ◌≤◌}
 use Rattle.timeline_scheduler.specs.Scratches.{HoldsTimes, ScratchRoom}
 
 -- the run that a run of the window follows is one of the window

@@ -1,26 +1,6 @@
 -- The grip of the detector comes back: its device is as it was counted, is back, or has failed.
-use Rattle.command_rules.specs.Rosters.{is_run, run_no}
-use Rattle.device_gate.specs.Calls.{has_died}
-use Rattle.device_gate.specs.Grips.{Gripped, WasCalled}
-use Rattle.device_gate.specs.Places.{IsKept}
-use Rattle.device_gate.specs.declared.grips.Done.{Done}
-use Rattle.device_gate.specs.declared.slips.Slip.{Slip}
-use Rattle.device_gate.specs.declared.slips.Told.TheVariants.{Died, Sensed, Worked}
-use Rattle.device_gate.specs.declared.slips.Told.{Told}
-use Rattle.device_states.specs.Devices.{Shown}
+use Rattle.hub_core.proofs.Prelude.{Back, Bool, Commands, DeviceNo, Died, Done, Doomed, Entry, Failed, Fell, Grip, Gripped, Grips, GripsFit, HasFallen, HasRisen, HeldTokensAre, HistoryState, IfSome, Inside, IsHomeAgain, IsKept, IsLostTo, IsRead, IsSome, IsTrue, IsWellFormed, IsWhole, LineageState, List, Lost, Marked, MayTake, MayTurn, None, OpenHub, Option, OrderIsBeside, Probes, Purpose, Reading, Rose, RunNo, Sensed, Setting, Shown, Slip, Some, Told, Undoes, WasCalled, Worked, [], accesses_at, and-true, ap, ap₂, arith, common_steps, cond, configuration_of, each_found, each_more, entries_made, entries_of, entries_on, entry, eq-eqb, eqb-true, event_place_of, events_after, false, find, fits_same, fold, grip_wait, grips_command, hand_of, has_died, has_grip, has_written, held_in, if◌then◌else◌, is_command, is_device, is_doomed, is_live, is_named_device, is_open, is_run, length, lineage_at, live_run, live_runs, live_runs_live, lost_by, lt-ltb, may_follow, none_does, not, open_of, option_map, option_to_list, pends, point, probe_entries, progress_at, read_facts, read_in, read_of, refl, run_no, run_place, same_Some, sees_up, slice_get, slice_index_or, subst, suc, sym, takes_first, takes_rest, true, unwrap_or, with_entry, with_hand, with_lost, with_more, zero, ℕ, ◌&&◌, ◌++◌, ◌+◌, ◌-◌, ◌<◌, ◌==◌, ◌∙◌, ◌∷◌, ◌≡◌, ◌≤◌}
 use Rattle.failure_serialization.specs.Events.{event_place, lost_run}
-use Rattle.history_book.proofs.Cited.{MayTake, each_found, each_more, entries_on, run_place, takes_first, takes_rest}
-use Rattle.history_book.specs.Histories.{entries_of, entry}
-use Rattle.history_book.specs.ReadHistories.{HistoryState, read_in, with_entry, with_lost, with_more}
-use Rattle.history_book.specs.Readings.{Reading, has_written, is_doomed, is_live, is_open, pends, sees_up}
-use Rattle.history_book.specs.Settings.{Setting, is_device}
-use Rattle.history_book.specs.WellFormed.{IsWellFormed, may_follow}
-use Rattle.history_book.specs.declared.entries.Cause.TheVariants.{Lost}
-use Rattle.history_book.specs.declared.entries.Entry.TheVariants.{Doomed, Fell, Rose}
-use Rattle.history_book.specs.declared.entries.Entry.{Entry}
-use Rattle.home_types.specs.declared.items.Item.TheVariants.{Back, Failed}
-use Rattle.home_types.specs.declared.numbers.DeviceNo.{DeviceNo}
-use Rattle.home_types.specs.declared.numbers.RunNo.{RunNo}
 use Rattle.hub_core.proofs.calls.Deaths.{more_after}
 use Rattle.hub_core.proofs.calls.Departures.{gone_past}
 use Rattle.hub_core.proofs.calls.Homecomings.{CameHome, IsHome, IsReturned, ProbeBack, came_whole, probe_given, returned_for, returned_places, takes_back}
@@ -29,39 +9,13 @@ use Rattle.hub_core.proofs.calls.OutFor.{IsFor, probe_purpose}
 use Rattle.hub_core.proofs.calls.Turning.{Falls, Rises, TellsTurn, fallen_number, may_fall, may_rise, risen_number, tells_may}
 use Rattle.hub_core.proofs.kept.EventsTold.{event_told, lost_told, probe_commands, sound_is}
 use Rattle.hub_core.proofs.kept.FallenOrders.{weak_place}
-use Rattle.window_devices.proofs.Cited.{none_does}
 use Rattle.hub_core.proofs.kept.OrderSteps.{read_more}
 use Rattle.hub_core.proofs.kept.ProbeSteps.{order_fell, order_lost, order_probe_home, order_rose}
 use Rattle.hub_core.proofs.kept.TableFits.{either_model}
 use Rattle.hub_core.proofs.steps.Calls.{back_entries, dead_entries}
-use Rattle.window_devices.specs.Checkouts.{HeldTokensAre, IsHomeAgain, with_hand}
-use Rattle.window_devices.specs.KnownDevices.{events_after, progress_at}
-use Rattle.hub_core.specs.HubsKept.{IsWhole, open_of}
-use Rattle.hub_core.specs.OrderStates.{HasFallen, HasRisen, IsLostTo, MayTurn, OrderIsBeside, hand_of}
-use Rattle.hub_core.specs.OpenHubs.{OpenHub, configuration_of, held_in}
-use Rattle.hub_core.specs.Steps.{probe_entries}
 use Rattle.window_devices.specs.declared.checkouts.Checkouts.{Checkouts}
 use Rattle.window_order.specs.declared.order_states.OrderState.{OrderState}
 use Rattle.window_devices.specs.declared.known.Events.{Events}
-use Rattle.hub_core.specs.declared.open_windows.OpenWindow.TheInside.{Inside}
-use Rattle.lock_leasing.specs.declared.purposes.Purpose.TheVariants.{Commands, Probes, Undoes}
-use Rattle.lock_leasing.specs.declared.purposes.Purpose.{Purpose}
-use Rattle.lineage_table.specs.Lineages.{LineageState, accesses_at, lineage_at}
-use Rattle.lock_leasing.proofs.Cited.{live_runs_live}
-use Rattle.lock_leasing.specs.Configurations.{Grip, Grips, grips_command, has_grip, is_command, point, read_of}
-use Rattle.lock_leasing.specs.Places.{GripsFit}
-use Rattle.lock_leasing.specs.Waits.{grip_wait, lost_by}
-use Rattle.lock_leasing.specs.Words.{live_runs}
-use Rattle.serial_line.specs.Marks.{Marked}
-use Rattle.std.proofs.Common.{ap, ap₂, arith, cond, refl, subst, sym, ◌∙◌}
-use Rattle.std.proofs.Math.Bool.{and-true}
-use Rattle.std.proofs.lemmas.Bool.{eq-eqb, eqb-true, lt-ltb}
-use Rattle.std.proofs.lemmas.Grind.{common_steps}
-use Rattle.std.proofs.lemmas.Option.{same_Some}
-use Rattle.std.specs.Prelude.{Bool, IfSome, IsSome, IsTrue, List, None, Option, Some, [], false, find, fold, if◌then◌else◌, length, not, option_map, option_to_list, slice_get, slice_index_or, suc, true, unwrap_or, zero, ℕ, ◌&&◌, ◌++◌, ◌+◌, ◌-◌, ◌<◌, ◌==◌, ◌∷◌, ◌≡◌, ◌≤◌}
-use Rattle.window_order.proofs.Cited.{IsRead, event_place_of, fits_same, live_run, read_facts}
-use Rattle.window_order.specs.TableChanges.{is_named_device}
-use Rattle.history_book.specs.Packed.{entries_made}
 
 -- What the detector's grip brings home
 

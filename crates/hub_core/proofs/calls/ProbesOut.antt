@@ -1,46 +1,16 @@
 -- A probe that goes out keeps what the type of a hub keeps, and is the step that it says.
-use Rattle.device_states.specs.Devices.{Shown}
+use Rattle.hub_core.proofs.Prelude.{Bool, Configuration, DeviceNo, DeviceProgress, Gripped, HeldTokensAre, Inside, IsDisciplined, IsKeptByModel, IsProbed, IsSent, IsTrue, IsWhole, LineageIsKept, MaySend, None, OpenHub, Option, OrderIsBeside, Out, ProbeTaken, Probed, Probes, SameWindow, Shown, Some, accesses_at, after_take_probe, ap, arith, below_home, carrying, common_steps, configuration_of, device_no, facts_of, false, held_in, hub_state_of, if◌then◌else◌, is_counted_up, is_device, is_out, is_weak, length, lineage_at, may_probe, nat_lt, not, open_of, point, point_of, probe_goes, probe_grip, progress_at, put, read_in, read_of, refl, restored, slice_set, standing_value, subst, sym, take_probe, true, value_standing, ℕ, ◌&&◌, ◌+◌, ◌-◌, ◌<◌, ◌∙◌, ◌≡◌}
 use Rattle.hub_core.proofs.kept.TableFits.{counted_told}
 use Rattle.hub_core.proofs.weak.WeakProbes.{weak_standing}
-use Rattle.device_gate.specs.Calls.{is_counted_up}
-use Rattle.device_gate.specs.Grips.{Gripped}
-use Rattle.device_gate.specs.declared.gates.Place.TheVariants.{Out}
 use Rattle.device_gate.specs.declared.grips.Ready.{Ready}
 use Rattle.device_gate.specs.declared.slips.Task.TheVariants.{Probe}
-use Rattle.history_book.specs.Readings.{put}
-use Rattle.history_book.specs.Settings.{is_device, is_weak}
 use Rattle.hub_core.proofs.calls.Departures.{IsGone, few_tickets, gone_carries, gone_configuration, gone_grips, gone_next, gone_shows, gone_whole, gone_window, gone_within, has_room, home_place}
-use Rattle.command_rules.specs.Rosters.{device_no}
-use Rattle.home_types.specs.declared.numbers.DeviceNo.{DeviceNo}
-use Rattle.window_devices.specs.Checkouts.{HeldTokensAre, IsSent, MaySend}
-use Rattle.window_devices.proofs.Cited.{probe_goes}
 use Rattle.hub_core.proofs.kept.ProbeSteps.{order_probe_out}
 use Rattle.hub_core.proofs.kept.KeptByModel.{probe_taken_kept}
 use Rattle.hub_core.proofs.kept.TableStands.{stand_told}
 use Rattle.hub_core.proofs.calls.HubOrders.{standing_whole}
-use Rattle.hub_core.specs.HubCalls.{IsProbed, SameWindow}
-use Rattle.hub_core.specs.KeptByModel.{IsKeptByModel}
-use Rattle.hub_core.specs.HubSteps.{ProbeTaken, Probed, carrying, take_probe}
-use Rattle.hub_core.specs.HubsKept.{IsWhole, open_of}
-use Rattle.hub_core.specs.OrderStates.{OrderIsBeside}
-use Rattle.hub_core.specs.OpenHubs.{OpenHub, configuration_of, held_in, hub_state_of}
-use Rattle.window_devices.specs.KnownDevices.{progress_at}
-use Rattle.history_book.specs.ReadHistories.{read_in}
-use Rattle.hub_core.specs.Steps.{after_take_probe, may_probe, probe_grip, restored}
-use Rattle.hub_core.specs.declared.open_windows.OpenWindow.TheInside.{Inside}
 use Rattle.window_order.specs.declared.order_states.OrderState.{OrderState}
-use Rattle.window_devices.specs.declared.known.DeviceProgress.{DeviceProgress}
-use Rattle.lock_leasing.specs.declared.purposes.Purpose.TheVariants.{Probes}
-use Rattle.lineage_table.specs.Accesses.{IsDisciplined, value_standing}
-use Rattle.lineage_table.specs.Lineages.{accesses_at, lineage_at}
-use Rattle.lock_leasing.proofs.Cited.{facts_of}
-use Rattle.lock_leasing.specs.Configurations.{Configuration, is_out, point, point_of, read_of}
-use Rattle.lock_leasing.specs.Words.{standing_value}
-use Rattle.std.proofs.Common.{ap, arith, refl, subst, sym, ◌∙◌}
-use Rattle.std.proofs.lemmas.Grind.{common_steps}
-use Rattle.std.specs.Prelude.{Bool, IsTrue, None, Option, Some, false, if◌then◌else◌, length, nat_lt, not, slice_set, true, ℕ, ◌&&◌, ◌+◌, ◌-◌, ◌<◌, ◌≡◌}
-use Rattle.window_order.proofs.Cited.{below_home, none_out}
-use Rattle.window_order.specs.TableKept.{LineageIsKept}
+use Rattle.window_order.proofs.Cited.{none_out}
 
 -- Whether one may go out
 

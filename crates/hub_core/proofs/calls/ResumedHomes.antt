@@ -1,13 +1,7 @@
 -- A home that is resumed: its devices so far, one more, and what is true of all.
-use Rattle.device_states.specs.Devices.{Shown}
+use Rattle.hub_core.proofs.Prelude.{Bool, HomeIsKept, Kind, List, Shown, Some, Stand, [], ap, arith, at_place, false, get_or, get_or_from_slice_get, has_value, if◌then◌else◌, inl, inr, kind_at, length, length-map, map, nowhere, refl, slice_get, slice_get_within, stand_at, subst, sym, true, ℕ, ◌*◌, ◌++◌, ◌+◌, ◌<◌, ◌^◌, ◌∙◌, ◌∷◌, ◌≡◌, ◌≤◌}
 use Rattle.home_journal.specs.Journals.{IsStateOf}
 use Rattle.home_types.proofs.Cited.{snoc_get}
-use Rattle.home_types.specs.HomeStates.{nowhere, stand_at}
-use Rattle.home_types.specs.Kinds.{has_value, kind_at}
-use Rattle.home_types.specs.declared.kinds.Kind.{Kind}
-use Rattle.home_types.specs.declared.worlds.Stand.{Stand}
-use Rattle.hub_core.specs.Homes.{HomeIsKept}
-use Rattle.legal_days.proofs.Cited.{at_place}
 use Rattle.legal_days.specs.LegalDays.{AreLeftFrom, IsDeviceOf, one_more_where}
 use Rattle.legal_days.specs.ResumedDays.{AreResumed, IsDeviceResumed, IsStateResumed, has_died_resuming, resumed_day}
 use Rattle.routine_reader.specs.Rosters.{kinds_of}
@@ -15,10 +9,7 @@ use Rattle.routine_reader.specs.Scripts.{plain_device, plain_script}
 use Rattle.routine_reader.specs.Sound.{IsSound}
 use Rattle.routine_reader.specs.declared.scripts.DeviceText.{DeviceText}
 use Rattle.routine_reader.specs.declared.scripts.Script.{Script}
-use Rattle.std.proofs.Common.{ap, arith, get_or, inl, inr, refl, subst, sym, ◌∙◌}
-use Rattle.std.proofs.lemmas.List.{length-append, length-map}
-use Rattle.std.proofs.lemmas.Option.{get_or_from_slice_get, slice_get_within}
-use Rattle.std.specs.Prelude.{Bool, List, Some, [], false, if◌then◌else◌, length, map, slice_get, true, ℕ, ◌*◌, ◌+◌, ◌++◌, ◌<◌, ◌^◌, ◌∷◌, ◌≡◌, ◌≤◌}
+use Rattle.std.proofs.lemmas.List.{length-append}
 
 -- no device is resumed yet
 pub resumed_none : {D : Type 0} (shows : D → Shown) (texts : List DeviceText) (before : List Stand) → AreResumed shows texts before 0 [] []

@@ -1,24 +1,7 @@
 -- The line and the table of a hub, when a device comes home.
-use Rattle.device_states.specs.Devices.{Shown}
+use Rattle.hub_core.proofs.Prelude.{Answer, Bool, Cause, ChangesEach, Command, Commands, Did, Done, Doomed, Down, Entry, Fine, Found, Gripped, Grips, GripsFit, HistoryState, Inside, IsSome, IsWellFormed, IsWhole, LineageState, List, Marked, MayNote, None, Option, OrderIsBeside, Reading, Setting, Shown, Skipped, Slip, Some, Task, Undid, Undoes, [], ap, arith, command_at, commands_of, common_steps, configuration_of, doomed_lineage, driven, each_at, entries_of, entries_on, entry, false, grips_command, has_died, held_after, held_in, holds, home_fits, if◌then◌else◌, is_access, is_doomed, is_fine, is_first, is_run, is_told, is_weak, kept_by, kind_at, length, lineage_at, may_act, may_follow, nat_lt, next_of, not, noted_first, nothing_read, open_of, pends, point, progress_at, put, put_other, read_in, reads, refl, run_no, subst, suits, sym, told_write, true, value_after, view_when, with_doom, with_entry, with_lineage, writes, ℕ, ◌&&◌, ◌++◌, ◌<◌, ◌==◌, ◌||◌, ◌∙◌, ◌∷◌, ◌≡◌}
 use Rattle.hub_core.proofs.kept.TableFits.{either_model}
-use Rattle.command_rules.specs.Rosters.{command_at, commands_of, is_run, run_no}
-use Rattle.device_gate.specs.Calls.{has_died, held_after, value_after}
-use Rattle.device_gate.specs.Grips.{Gripped}
-use Rattle.device_gate.specs.declared.grips.Done.{Done}
-use Rattle.device_gate.specs.declared.slips.Slip.{Slip}
 use Rattle.device_gate.specs.declared.slips.Task.TheVariants.{Drive, Sense}
-use Rattle.device_gate.specs.declared.slips.Task.{Task}
-use Rattle.history_book.proofs.Cited.{each_at, entries_on, put_other}
-use Rattle.history_book.specs.Histories.{entries_of, entry, kept_by}
-use Rattle.history_book.specs.Readings.{Reading, is_access, is_doomed, is_fine, is_told, next_of, nothing_read, pends, put}
-use Rattle.history_book.specs.Settings.{Setting, is_weak}
-use Rattle.history_book.specs.WellFormed.{IsWellFormed, may_act, may_follow, suits}
-use Rattle.history_book.specs.declared.entries.Entry.TheVariants.{Did, Doomed, Undid}
-use Rattle.home_types.specs.Commands.{driven, holds, reads, writes}
-use Rattle.home_types.specs.Kinds.{kind_at}
-use Rattle.home_types.specs.declared.commands.Answer.TheVariants.{Down, Fine, Found, Skipped}
-use Rattle.home_types.specs.declared.commands.Answer.{Answer}
-use Rattle.home_types.specs.declared.commands.Command.{Command}
 use Rattle.home_types.specs.declared.commands.Job.TheVariants.{Check, Load, Set, Store}
 use Rattle.home_types.specs.declared.commands.Job.{Job}
 use Rattle.home_types.specs.declared.commands.View.{View}
@@ -29,28 +12,8 @@ use Rattle.hub_core.proofs.calls.HubReturns.{IsAnswered, answered_back, undone_b
 use Rattle.hub_core.proofs.calls.OutFor.{IsForCommand, for_command}
 use Rattle.hub_core.proofs.kept.OrderSteps.{done_after, last_follows, may_note, none_out, order_answered, order_answered_weakly, order_doomed_if, order_undone, read_more}
 use Rattle.hub_core.proofs.steps.Gives.{told_access}
-use Rattle.hub_core.specs.HubsKept.{IsWhole, open_of}
-use Rattle.hub_core.specs.OrderStates.{OrderIsBeside}
-use Rattle.window_order.specs.OrderStates.{MayNote, is_first, noted_first}
-use Rattle.hub_core.specs.OpenHubs.{configuration_of, held_in}
-use Rattle.window_devices.specs.KnownDevices.{progress_at}
-use Rattle.history_book.specs.ReadHistories.{HistoryState, read_in, with_doom, with_entry}
-use Rattle.hub_core.specs.declared.open_windows.OpenWindow.TheInside.{Inside}
 use Rattle.window_order.specs.declared.order_states.OrderState.{OrderState}
-use Rattle.lock_leasing.specs.declared.purposes.Purpose.TheVariants.{Commands, Undoes}
-use Rattle.lineage_table.specs.Lineages.{LineageState, lineage_at, with_lineage}
-use Rattle.lock_leasing.specs.Configurations.{Grips, grips_command, point}
-use Rattle.lock_leasing.specs.Tables.{view_when}
-use Rattle.serial_line.specs.Marks.{Marked}
-use Rattle.std.proofs.Common.{ap, arith, refl, subst, sym, ◌∙◌}
-use Rattle.std.proofs.lemmas.Grind.{common_steps}
-use Rattle.std.specs.Prelude.{Bool, IsSome, List, None, Option, Some, [], false, if◌then◌else◌, length, nat_lt, not, true, ℕ, ◌&&◌, ◌++◌, ◌<◌, ◌==◌, ◌||◌, ◌∷◌, ◌≡◌}
-use Rattle.window_order.specs.TableChanges.{ChangesEach, doomed_lineage, told_write}
-use Rattle.history_book.specs.declared.entries.Cause.{Cause}
-use Rattle.history_book.specs.declared.entries.Entry.{Entry}
-use Rattle.lock_leasing.specs.Places.{GripsFit}
 use Rattle.std.proofs.lemmas.List.{append_assoc}
-use Rattle.window_order.proofs.Cited.{home_fits}
 
 -- What the answer tells
 

@@ -1,30 +1,11 @@
 -- A lease that is overdue is revoked: its run is doomed by the step of another one.
-use Rattle.command_rules.specs.Rosters.{is_run, run_no}
-use Rattle.device_states.specs.Devices.{Shown}
-use Rattle.history_book.specs.Readings.{is_doomed, is_live}
-use Rattle.history_book.specs.WellFormed.{may_follow}
-use Rattle.history_book.specs.declared.entries.Cause.TheVariants.{Revoked}
-use Rattle.history_book.specs.declared.entries.Entry.TheVariants.{Doomed}
-use Rattle.home_types.specs.declared.numbers.DeviceNo.{DeviceNo}
-use Rattle.home_types.specs.declared.numbers.RunNo.{RunNo}
+use Rattle.hub_core.proofs.Prelude.{ChangesEach, Configuration, DeviceNo, Doomed, Inside, IsWhole, Moves, Option, Revoked, RunNo, Shown, [], arith, choice_of, common_steps, configuration_of, doomed_unless, false, grip_wait, is_doomed, is_live, is_run, max, may_follow, open_of, option_map, read_in, read_of, refl, run_no, true, ℕ, ◌∷◌, ◌≡◌}
 use Rattle.hub_core.proofs.calls.HubChanges.{Going, IsEntered, entered_whole, entries_kept}
 use Rattle.hub_core.proofs.calls.HubOrders.{read_whole}
 use Rattle.hub_core.proofs.calls.ProbesFound.{out_commands}
 use Rattle.hub_core.proofs.kept.OrderSteps.{last_follows}
 use Rattle.hub_core.proofs.kept.ProbeSteps.{order_lost}
 use Rattle.hub_core.proofs.steps.Takes.{live_run}
-use Rattle.hub_core.specs.HubsKept.{IsWhole, open_of}
-use Rattle.hub_core.specs.OpenHubs.{configuration_of}
-use Rattle.history_book.specs.ReadHistories.{read_in}
-use Rattle.hub_core.specs.Steps.{Moves, choice_of}
-use Rattle.hub_core.specs.declared.open_windows.OpenWindow.TheInside.{Inside}
-use Rattle.lock_leasing.specs.Configurations.{Configuration, read_of}
-use Rattle.lock_leasing.specs.Waits.{grip_wait}
-use Rattle.std.proofs.Common.{refl}
-use Rattle.std.proofs.lemmas.Grind.{common_steps}
-use Rattle.std.proofs.Common.{arith}
-use Rattle.std.specs.Prelude.{Option, [], false, max, option_map, true, ℕ, ◌∷◌, ◌≡◌}
-use Rattle.window_order.specs.TableChanges.{ChangesEach, doomed_unless}
 
 -- the borrower is a live run of the window, and not doomed
 pub record IsBorrowing (s : Configuration) (x : ℕ) : Type 0 where

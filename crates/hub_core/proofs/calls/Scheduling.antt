@@ -1,17 +1,7 @@
 -- What a placing makes of a lineage table is what the plan of the run says.
-use Rattle.command_rules.specs.Rosters.{Run, touches}
-use Rattle.history_book.specs.Plans.{planned_end, planned_start}
-use Rattle.history_book.specs.Readings.{Planned}
+use Rattle.hub_core.proofs.Prelude.{Bool, ChangesEach, Item, LineageState, List, None, Option, Planned, Run, Some, ap, false, first_with_access, get_or, get_or_from_slice_get, if◌then◌else◌, lineage_at, list_any, planned_end, planned_start, refl, rescheduled, scheduled, scheduled_on, scheduled_so, scheduled_with, touches, true, waiting_access, ℕ, ◌==◌, ◌∙◌, ◌≡◌}
 use Rattle.history_book.specs.declared.planned_uses.PlannedUse.{PlannedUse}
-use Rattle.home_types.specs.declared.items.Item.{Item}
-use Rattle.lineage_table.specs.Lineages.{LineageState, lineage_at, scheduled}
-use Rattle.std.proofs.Common.{ap, refl, ◌∙◌}
-use Rattle.std.proofs.lemmas.Option.{get_or_from_slice_get}
-use Rattle.std.specs.List.{list_any}
-use Rattle.std.specs.Prelude.{Bool, List, None, Option, Some, false, get_or, if◌then◌else◌, true, ℕ, ◌==◌, ◌≡◌}
 use Rattle.timeline_scheduler.specs.PlannedUses.{AreUsesOf, planned_use}
-use Rattle.window_order.specs.OrderStates.{scheduled_so, scheduled_with}
-use Rattle.window_order.specs.TableChanges.{ChangesEach, first_with_access, rescheduled, scheduled_on, waiting_access}
 
 -- Uses that a scratch holds
 

@@ -1,38 +1,17 @@
 -- How a run sees the device of its next command, and whether the device is counted up, read off the lineage table.
-use Rattle.command_rules.specs.Items.{of_run}
-use Rattle.command_rules.specs.Rosters.{command_at, commands_of, is_on, no_command}
+use Rattle.hub_core.proofs.Prelude.{Bool, Command, Grips, Inside, IsAtCommand, IsRead, IsWhole, LineageIsKept, LineageState, List, None, OpenHub, Option, Reading, Setting, Shown, Some, access_of, access_read, accesses_along, accesses_at, accesses_read, along_there, ap, arith, command_at, commands_of, commits_write, common_steps, configuration_of, cut_live, eq-eqb, false, front_accesses, grips_command, held_in, if◌then◌else◌, is_device, is_doomed, is_live, is_on, is_some, is_weak, item_there, length, lineage_at, list_any, never_passed, next_is_left, next_of, no_command, none_commits, none_in_front, not, of_run, open_behind, open_of, option_map, pending_touches, pends, point, read_in, read_of, refl, rest_drop, sees_down, slice_get, subst, true, unwrap_or, uses, uses_now, view_of, view_when, ℕ, ◌&&◌, ◌++◌, ◌<◌, ◌||◌, ◌∙◌, ◌∷◌, ◌≡◌}
 use Rattle.device_order.specs.LineEntries.{stage_of, usage}
 use Rattle.device_order.specs.LineWords.{CutAt}
 use Rattle.device_order.specs.RunStates.{uses_device}
 use Rattle.device_order.specs.Usages.{stage_is_open}
-use Rattle.device_states.specs.Devices.{Shown}
-use Rattle.history_book.specs.Readings.{Reading, is_doomed, is_live, next_of, pends, sees_down, view_of}
-use Rattle.history_book.specs.Settings.{Setting, is_device, is_weak}
-use Rattle.home_types.specs.declared.commands.Command.{Command}
 use Rattle.home_types.specs.declared.commands.View.TheVariants.{Down}
 use Rattle.hub_core.proofs.calls.HubOrders.{read_whole, roster_allowed}
-use Rattle.hub_core.specs.HubsKept.{IsWhole, open_of}
-use Rattle.hub_core.specs.OpenHubs.{OpenHub, configuration_of, held_in}
-use Rattle.history_book.specs.ReadHistories.{read_in}
-use Rattle.hub_core.specs.declared.open_windows.OpenWindow.TheInside.{Inside}
 use Rattle.lineage_table.proofs.Cited.{access_at}
-use Rattle.lineage_table.specs.Accesses.{access_of}
-use Rattle.lineage_table.specs.Lineages.{LineageState, accesses_at, lineage_at}
 use Rattle.lineage_table.specs.declared.accesses.Access.{Access}
-use Rattle.lock_leasing.proofs.Cited.{item_there, next_is_left}
-use Rattle.lock_leasing.specs.Configurations.{Grips, grips_command, point, read_of}
 use Rattle.lock_leasing.specs.Holders.{is_down_view, sees_it_down}
-use Rattle.lock_leasing.specs.Standings.{IsAtCommand}
-use Rattle.lock_leasing.specs.Tables.{uses, view_when}
-use Rattle.std.proofs.Common.{ap, arith, refl, subst, ◌∙◌}
-use Rattle.std.proofs.lemmas.Bool.{eq-eqb}
-use Rattle.std.proofs.lemmas.Grind.{common_steps}
-use Rattle.std.specs.List.{list_any}
-use Rattle.std.specs.Prelude.{Bool, List, None, Option, Some, false, if◌then◌else◌, is_some, length, not, option_map, slice_get, true, unwrap_or, ℕ, ◌&&◌, ◌++◌, ◌<◌, ◌||◌, ◌∷◌, ◌≡◌}
-use Rattle.window_order.proofs.Cited.{IsRead, along_there, cut_live, front_accesses, live_uncommitted, never_passed, none_commits, none_in_front, open_behind, pending_touches, rest_drop, uses_now}
+use Rattle.window_order.proofs.Cited.{live_uncommitted}
 use Rattle.window_order.specs.OrderKept.{OrderIsKept}
 use Rattle.window_order.specs.ReadWindows.{run_state}
-use Rattle.window_order.specs.TableKept.{LineageIsKept, access_read, accesses_along, accesses_read, commits_write}
 
 -- the access of a run that is open on the device tells whether it sees it down
 pub sees_read : (w : Setting) (n : Reading) (g : Grips) (held : ℕ → ℕ) (d r : ℕ) (s : LineageState) → IsRead w n → is_device w d ≡ true → OrderIsKept (point w n g) held → is_live n r ≡ true → is_doomed n r ≡ false → pends w n r d ≡ true → LineageIsKept (point w n g) d s

@@ -1,12 +1,5 @@
 -- A run that skips its next command keeps what the type of a hub keeps.
-use Rattle.command_rules.specs.Rosters.{command_at, commands_of, is_run, run_no}
-use Rattle.device_states.specs.Devices.{Shown}
-use Rattle.history_book.specs.Histories.{entry}
-use Rattle.history_book.specs.Readings.{Reading, is_doomed, next_of, pends}
-use Rattle.history_book.specs.Settings.{Setting, is_weak}
-use Rattle.history_book.specs.declared.entries.Entry.TheVariants.{Did}
-use Rattle.home_types.specs.declared.commands.Answer.TheVariants.{Skipped}
-use Rattle.home_types.specs.declared.commands.Command.{Command}
+use Rattle.hub_core.proofs.Prelude.{Bool, Command, Did, Grips, HistoryState, Inside, IsUnreleased, IsWhole, Moves, OrderIsBeside, Reading, Setting, Shown, Skipped, ap, arith, below_home, choice_of, command_at, commands_of, configuration_of, entry, false, held_in, if◌then◌else◌, is_done_there, is_doomed, is_first, is_run, is_weak, left_by, length, lineage_at, next_of, not, open_of, pends, read_in, refl, run_no, skip_entries, subst, sym, true, with_entry, with_lineage, with_more, ℕ, ◌<◌, ◌||◌, ◌∙◌, ◌≡◌}
 use Rattle.hub_core.proofs.calls.HubChanges.{Going, IsEntered, entered_whole}
 use Rattle.hub_core.proofs.calls.HubChoices.{IsSkipping, skipping}
 use Rattle.hub_core.proofs.calls.HubOrders.{read_whole}
@@ -14,19 +7,6 @@ use Rattle.hub_core.proofs.kept.OrderSteps.{done_after, read_more}
 use Rattle.hub_core.proofs.kept.SkippedOrders.{may_leave, order_skipped, order_skipped_weakly}
 use Rattle.hub_core.proofs.kept.TableFits.{either_model}
 use Rattle.hub_core.proofs.steps.Takes.{live_run}
-use Rattle.hub_core.specs.HubsKept.{IsWhole, open_of}
-use Rattle.hub_core.specs.OrderStates.{OrderIsBeside}
-use Rattle.window_order.specs.OrderStates.{IsUnreleased, is_first, left_by}
-use Rattle.hub_core.specs.OpenHubs.{configuration_of, held_in}
-use Rattle.history_book.specs.ReadHistories.{HistoryState, read_in, with_entry, with_more}
-use Rattle.hub_core.specs.Steps.{Moves, choice_of, skip_entries}
-use Rattle.hub_core.specs.declared.open_windows.OpenWindow.TheInside.{Inside}
-use Rattle.lineage_table.specs.Lineages.{lineage_at, with_lineage}
-use Rattle.lock_leasing.specs.Configurations.{Grips}
-use Rattle.std.proofs.Common.{ap, arith, refl, subst, sym, ◌∙◌}
-use Rattle.std.specs.Prelude.{Bool, false, if◌then◌else◌, length, not, true, ℕ, ◌<◌, ◌||◌, ◌≡◌}
-use Rattle.window_order.proofs.Cited.{below_home}
-use Rattle.window_order.specs.TableChanges.{is_done_there}
 
 -- what the code asks for before it
 pub record MaySkip {D : Type 0} (h : Inside D) (r k : ℕ) : Type 0 where

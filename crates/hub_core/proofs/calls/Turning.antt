@@ -1,19 +1,5 @@
 -- A device that fails or comes back as it comes home: it may, and line and history have room for it.
-use Rattle.device_gate.specs.Calls.{has_died}
-use Rattle.device_gate.specs.Grips.{Gripped}
-use Rattle.device_gate.specs.declared.grips.Done.{Done}
-use Rattle.device_gate.specs.declared.slips.Slip.{Slip}
-use Rattle.device_states.specs.Devices.{Shown}
-use Rattle.history_book.proofs.Cited.{takes_first}
-use Rattle.history_book.specs.Histories.{entry}
-use Rattle.history_book.specs.ReadHistories.{read_in}
-use Rattle.history_book.specs.Readings.{Reading, put}
-use Rattle.history_book.specs.Settings.{Setting}
-use Rattle.history_book.specs.WellFormed.{may_follow}
-use Rattle.history_book.specs.declared.entries.Entry.TheVariants.{Fell, Rose}
-use Rattle.history_book.specs.declared.entries.Entry.{Entry}
-use Rattle.home_types.specs.declared.items.Item.TheVariants.{Back, Failed}
-use Rattle.home_types.specs.declared.numbers.DeviceNo.{DeviceNo}
+use Rattle.hub_core.proofs.Prelude.{Back, Bool, DeviceNo, Done, Entry, Failed, Fell, Gripped, Grips, Inside, IsWhole, List, Mark, MarksAreKept, MayTurn, Purpose, Reading, Rose, Setting, Shown, Slip, ap, arith, common_steps, configuration_of, entry, event_place_of, events_after, events_in, failure_absent, false, fold, has_died, held_in, length, marks_fell, marks_rose, may_follow, most_items, open_of, point, progress_at, put, read_in, read_of, restart_absent, subst, sym, takes_first, true, turned, ℕ, ◌+◌, ◌<◌, ◌∙◌, ◌∷◌, ◌≡◌, ◌≤◌}
 use Rattle.hub_core.proofs.calls.Homecomings.{ComesBack, IsReturned, after_back, held_back, returned_comes, returned_entries, returned_for, returned_places}
 use Rattle.hub_core.proofs.calls.HubOrders.{read_whole}
 use Rattle.hub_core.proofs.kept.EventsTold.{line_size}
@@ -23,21 +9,8 @@ use Rattle.hub_core.proofs.kept.Sizes.{line_fits}
 use Rattle.hub_core.proofs.kept.TableFits.{counted_told, no_detector}
 use Rattle.hub_core.proofs.steps.Afters.{read_with}
 use Rattle.hub_core.proofs.steps.Calls.{is_up_for}
-use Rattle.window_devices.specs.KnownDevices.{events_after, progress_at, turned}
-use Rattle.hub_core.specs.Bounds.{most_items}
-use Rattle.hub_core.specs.HubsKept.{IsWhole, open_of}
-use Rattle.hub_core.specs.OrderStates.{MayTurn}
-use Rattle.hub_core.specs.OpenHubs.{configuration_of, events_in, held_in}
-use Rattle.lock_leasing.specs.declared.purposes.Purpose.{Purpose}
 use Rattle.window_devices.specs.declared.known.Events.{Events}
-use Rattle.hub_core.specs.declared.open_windows.OpenWindow.TheInside.{Inside}
-use Rattle.lock_leasing.specs.Configurations.{Grips, point, read_of}
-use Rattle.serial_line.specs.Marks.{Mark, stands as stands_item}
-use Rattle.std.proofs.Common.{ap, arith, subst, sym, ◌∙◌}
-use Rattle.std.proofs.lemmas.Grind.{common_steps}
-use Rattle.std.specs.Prelude.{Bool, List, false, fold, length, true, ℕ, ◌+◌, ◌<◌, ◌∷◌, ◌≡◌, ◌≤◌}
-use Rattle.window_order.proofs.Cited.{event_place_of, failure_absent, marks_fell, marks_rose, restart_absent}
-use Rattle.window_order.specs.MarksKept.{MarksAreKept}
+use Rattle.serial_line.specs.Marks.{stands as stands_item}
 
 -- with an event the line is longer by one
 fell_line : (w : Setting) (n : Reading) (g : Grips) (d : DeviceNo) (marks : List Mark) → MarksAreKept n g marks → length (entry w n (Fell d)).line ≡ length n.line + 1

@@ -1,20 +1,8 @@
 -- A window that was closed was worked from its opening on.
 use Rattle.device_gate.proofs.Cited.{home_at}
-use Rattle.device_gate.specs.declared.gates.Place.TheVariants.{Home, Out}
-use Rattle.device_gate.specs.declared.gates.Place.{Place}
-use Rattle.device_states.specs.Devices.{Shown}
-use Rattle.history_book.specs.Settings.{Setting}
+use Rattle.hub_core.proofs.Prelude.{Home, HomeAfter, HomeState, HubStands, IsLegalWindow, List, None, NoneFails, OpenHub, Option, Out, Place, RunsHaveEnded, SameWindow, Setting, Shown, Some, WindowIsClosed, ap, length, length-map, probes_taken, progress_at, slice_get, slice_get_within, slice_index_or, subst, sym, ℕ, ◌+◌, ◌<◌, ◌∙◌, ◌≡◌}
 use Rattle.history_book.specs.declared.records.WindowRecord.{WindowRecord}
-use Rattle.hub_core.specs.Homes.{HomeState}
-use Rattle.hub_core.specs.HubCalls.{HomeAfter, HubStands, NoneFails, RunsHaveEnded, SameWindow, WindowIsClosed, probes_taken}
-use Rattle.hub_core.specs.OpenHubs.{OpenHub}
-use Rattle.window_devices.specs.KnownDevices.{progress_at}
 use Rattle.hub_core.specs.WindowWays.{WindowIsWorked}
-use Rattle.legal_days.specs.LegalWindows.{IsLegalWindow}
-use Rattle.std.proofs.Common.{ap, subst, sym, ◌∙◌}
-use Rattle.std.proofs.lemmas.List.{length-map}
-use Rattle.std.proofs.lemmas.Option.{slice_get_within}
-use Rattle.std.specs.Prelude.{List, None, Option, Some, length, slice_get, slice_index_or, ℕ, ◌+◌, ◌<◌, ◌≡◌}
 
 -- the plan of the device that is home in this place
 abbrev pub plan_in : {D : Type 0} → (D → Shown) → Option (Place D) → Option (List (ℕ × ℕ))

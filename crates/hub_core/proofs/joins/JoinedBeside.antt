@@ -1,21 +1,9 @@
 -- Line and table stand beside a history still where there is more room, and where a run joins for which there is room.
-use Rattle.command_rules.specs.Rosters.{Run}
-use Rattle.history_book.proofs.Cited.{ReadsOwn}
+use Rattle.hub_core.proofs.Prelude.{Grips, IsOrderOf, LineageIsKept, LineageState, List, Marked, MarksAreKept, Point, Reading, ReadsOwn, Run, Setting, ap, arith, front_of, joined_lineage, length, lineage_at, point, roomier_table, subst, sym, ℕ, ◌+◌, ◌<◌, ◌∙◌, ◌≡◌, ◌≤◌}
 use Rattle.history_book.specs.Joined.{with_joined}
-use Rattle.history_book.specs.Readings.{Reading}
-use Rattle.history_book.specs.Settings.{Setting}
 use Rattle.hub_core.proofs.joins.JoinedRooms.{joined_items}
-use Rattle.hub_core.specs.OrderStates.{IsOrderOf}
-use Rattle.lineage_table.specs.Lineages.{LineageState, lineage_at}
-use Rattle.lock_leasing.specs.Configurations.{Grips, Point, point}
 use Rattle.serial_line.specs.KeptRuns.{AreKeptOf}
-use Rattle.serial_line.specs.Marks.{Marked, front_of}
-use Rattle.std.proofs.Common.{ap, arith, subst, sym, ◌∙◌}
-use Rattle.std.specs.Prelude.{List, length, ℕ, ◌+◌, ◌<◌, ◌≡◌, ◌≤◌}
-use Rattle.window_order.proofs.Cited.{joined_lineage, roomier_table}
 use Rattle.window_order.specs.Joins.{HasMoreRoom, HasRoomFor}
-use Rattle.window_order.specs.MarksKept.{MarksAreKept}
-use Rattle.window_order.specs.TableKept.{LineageIsKept}
 
 -- More room
 

@@ -1,37 +1,10 @@
 -- What the type of a hub keeps of its configuration is kept where a run joins its window.
-use Rattle.command_rules.specs.Items.{is_ran}
-use Rattle.command_rules.specs.Rosters.{Run, commands_of, followed_by, is_run, run_in_roster, shares}
+use Rattle.hub_core.proofs.Prelude.{ActsInTurn, Along_joined, Back, Bool, Command, Configuration, ConfigurationIsKept, Entry, Failed, FollowersStand, Grips, HistoryIsKept, IsScheduled, IsTrue, IsWellFormed, Item, List, MayOpen, None, NoneAnsweredDoomed, Option, Ran, Reading, ReadsOwn, Run, RunNo, Setting, Shaped, Some, Visibility, [], ap, arith, before, commands_of, common_steps, cons_option, entries_of, false, find, first_holds, followed_by, formed_joined, if◌then◌else◌, is_device, is_live, is_probed, is_ran, is_run, is_stray, joined_clean, joined_justified, joined_scheduled, joined_strict, joined_window_order, kind_at, length, length-append, list_any, live_before, live_own, live_runs, names_values_of, nat_lt, none_strays, not, nothing_read, option_and_then, option_map, own_commands, own_run, own_shares, own_start, placed_in_order, point, read_of, reading, refl, run_in_roster, same_reading, shapes, shares, slice_get, strict_wait, subst, suc, sym, true, unwrap_or, zero, ℕ, ◌&&◌, ◌++◌, ◌+◌, ◌<◌, ◌==◌, ◌||◌, ◌∙◌, ◌∷◌, ◌≡◌, ◌≤◌}
 use Rattle.device_order.specs.Summaries.{AreHomed}
-use Rattle.history_book.proofs.Cited.{Along_joined, ReadsOwn, Shaped, first_holds, formed_joined, is_stray, live_own, none_strays, own_commands, own_run, own_shares, own_start, same_reading, shapes}
-use Rattle.history_book.specs.Histories.{entries_of, reading}
 use Rattle.history_book.specs.Joined.{with_joined}
-use Rattle.history_book.specs.Lines.{before}
-use Rattle.history_book.specs.Readings.{Reading, is_live, nothing_read}
-use Rattle.history_book.specs.Settings.{Setting, is_device}
-use Rattle.history_book.specs.WellFormed.{IsWellFormed}
-use Rattle.history_book.specs.declared.entries.Entry.{Entry}
-use Rattle.home_types.specs.Kinds.{kind_at}
 use Rattle.home_types.specs.Limits.{most_commands}
-use Rattle.home_types.specs.declared.commands.Command.{Command}
-use Rattle.home_types.specs.declared.items.Item.TheVariants.{Back, Failed, Ran}
-use Rattle.home_types.specs.declared.items.Item.{Item}
 use Rattle.home_types.specs.declared.modes.Visibility.TheVariants.{Eventual, Global, Partitioned, Weak}
-use Rattle.home_types.specs.declared.modes.Visibility.{Visibility}
-use Rattle.home_types.specs.declared.numbers.RunNo.{RunNo}
-use Rattle.hub_core.specs.HubKept.{ActsInTurn, ConfigurationIsKept, FollowersStand, HistoryIsKept, NoneAnsweredDoomed, is_probed, placed_in_order}
 use Rattle.hub_core.specs.Joins.{MayJoin, joined_to}
-use Rattle.hub_core.specs.Openings.{MayOpen, names_values_of}
-use Rattle.legal_days.proofs.Cited.{joined_clean, joined_justified, joined_strict}
-use Rattle.lock_leasing.proofs.Cited.{joined_scheduled}
-use Rattle.lock_leasing.specs.Configurations.{Configuration, Grips, point, read_of}
-use Rattle.lock_leasing.specs.Places.{IsScheduled}
-use Rattle.lock_leasing.specs.Waits.{strict_wait}
-use Rattle.lock_leasing.specs.Words.{live_before, live_runs}
-use Rattle.std.proofs.Common.{ap, arith, length-append, refl, subst, sym, ◌∙◌}
-use Rattle.std.proofs.lemmas.Grind.{common_steps}
-use Rattle.std.specs.List.{cons_option, list_any}
-use Rattle.std.specs.Prelude.{Bool, IsTrue, List, None, Option, Some, [], false, find, if◌then◌else◌, length, nat_lt, not, option_and_then, option_map, slice_get, suc, true, unwrap_or, zero, ℕ, ◌&&◌, ◌+◌, ◌++◌, ◌<◌, ◌==◌, ◌||◌, ◌∷◌, ◌≡◌, ◌≤◌}
-use Rattle.window_order.proofs.Cited.{joined_window_order}
 use Rattle.window_order.specs.OrderKept.{OrderIsKept}
 
 -- The runs of the longer roster

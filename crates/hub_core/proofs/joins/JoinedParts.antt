@@ -1,46 +1,10 @@
 -- What the type of a hub keeps of its parts is kept where a run joins its window: under the weak model too, of the devices home and out, of the hands, of the runs that the line keeps, and of the table.
-use Rattle.command_rules.specs.Rosters.{Run, command_at, commands_of, is_run, no_command}
+use Rattle.hub_core.proofs.Prelude.{Aborted, Arrived, Bool, Command, Commands, Committed, Configuration, DeviceNo, Did, Doomed, Down, DownAtEnd, EachOut, Ended, Entry, Fell, Fine, Found, Grip, Grips, GripsFit, HeldTokensAre, HubIsKept, IsKeptByModel, IsTrue, IsWellFormed, List, Lost, MustDown, None, OpenHub, Option, Placed, Probes, Purpose, Reading, ReadsOwn, Refuted, Revoked, Rose, Run, Setting, Shown, Skipped, Some, Task, Undid, Undoes, [], along_joined, ap, arith, command_at, command_task, commands_of, common_steps, configuration_of, device_numbers, driven, entries_of, events_in, false, find, first_holds, formed_joined, grip_in, grip_wait, has_grip, if◌then◌else◌, inl, inr, is_live, is_probed, is_run, joined_grips, joined_justified, kind_at, length, length-append, live_own, may_follow, no_command, none_fails, not, nothing_read, option_map, own_commands, own_start, point, point_of, progress_at, read_of, reads, refl, run_place, same_reading, same_told, shown, slice_get, slice_index_or, stranger_idle, subst, suc, sym, task_of, told_calls, true, unwrap_or, weakly_allowed, zero, ℕ, ◌++◌, ◌+◌, ◌==◌, ◌∙◌, ◌∷◌, ◌≡◌, ◌≤◌, ◌⊎◌}
 use Rattle.device_gate.specs.declared.slips.Task.TheVariants.{Drive, Sense}
-use Rattle.device_gate.specs.declared.slips.Task.{Task}
-use Rattle.device_states.specs.Devices.{Shown}
-use Rattle.history_book.proofs.Cited.{ReadsOwn, along_joined, first_holds, formed_joined, live_own, own_commands, own_start, run_place, same_reading}
-use Rattle.history_book.specs.Histories.{entries_of}
 use Rattle.history_book.specs.Joined.{with_joined}
-use Rattle.history_book.specs.Readings.{Reading, is_live, nothing_read}
-use Rattle.history_book.specs.Settings.{Setting, device_numbers}
-use Rattle.history_book.specs.WellFormed.{IsWellFormed, may_follow}
-use Rattle.history_book.specs.declared.entries.Cause.TheVariants.{DownAtEnd, Lost, MustDown, Refuted, Revoked}
-use Rattle.history_book.specs.declared.entries.End.TheVariants.{Aborted, Committed}
-use Rattle.history_book.specs.declared.entries.Entry.TheVariants.{Arrived, Did, Doomed, Ended, Fell, Placed, Rose, Undid}
-use Rattle.history_book.specs.declared.entries.Entry.{Entry}
-use Rattle.home_types.specs.Commands.{driven, reads}
-use Rattle.home_types.specs.Kinds.{kind_at}
-use Rattle.home_types.specs.declared.commands.Answer.TheVariants.{Down, Fine, Found, Skipped}
-use Rattle.home_types.specs.declared.commands.Command.{Command}
-use Rattle.home_types.specs.declared.numbers.DeviceNo.{DeviceNo}
 use Rattle.hub_core.proofs.joins.JoinedHubs.{joined_configuration, may_open_joined, reads_own}
-use Rattle.hub_core.specs.HubKept.{EachOut, is_probed}
-use Rattle.hub_core.specs.HubSteps.{command_task, task_of}
-use Rattle.hub_core.specs.HubsKept.{HubIsKept}
 use Rattle.hub_core.specs.Joins.{MayJoin, joined, joined_to}
-use Rattle.hub_core.specs.KeptByModel.{IsKeptByModel}
-use Rattle.hub_core.specs.OpenHubs.{OpenHub, configuration_of, events_in}
 use Rattle.hub_core.specs.WeakKept.{NoneHasFailed, WeakIsKept, goes_weakly}
-use Rattle.legal_days.proofs.Cited.{joined_justified, same_told, shown}
-use Rattle.legal_days.specs.AccountedCalls.{told_calls}
-use Rattle.legal_days.specs.LegalWindows.{none_fails, weakly_allowed}
-use Rattle.lock_leasing.proofs.Cited.{joined_grips}
-use Rattle.lock_leasing.specs.Configurations.{Configuration, Grip, Grips, has_grip, point, point_of, read_of}
-use Rattle.lock_leasing.specs.Places.{GripsFit}
-use Rattle.lock_leasing.specs.Waits.{grip_wait}
-use Rattle.lock_leasing.specs.declared.purposes.Purpose.TheVariants.{Commands, Probes, Undoes}
-use Rattle.lock_leasing.specs.declared.purposes.Purpose.{Purpose}
-use Rattle.std.proofs.Common.{ap, arith, inl, inr, length-append, refl, subst, sym, ◌∙◌}
-use Rattle.std.proofs.lemmas.Grind.{common_steps}
-use Rattle.std.specs.Prelude.{Bool, IsTrue, List, None, Option, Some, [], false, find, if◌then◌else◌, length, not, option_map, slice_get, slice_index_or, suc, true, unwrap_or, zero, ℕ, ◌⊎◌, ◌+◌, ◌++◌, ◌==◌, ◌∷◌, ◌≡◌, ◌≤◌}
-use Rattle.window_devices.specs.Checkouts.{HeldTokensAre}
-use Rattle.window_devices.specs.KnownDevices.{grip_in, progress_at}
-use Rattle.window_order.proofs.Cited.{stranger_idle}
 
 -- Under the weak model
 

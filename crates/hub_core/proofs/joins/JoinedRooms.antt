@@ -1,10 +1,6 @@
 -- Where a run joins: the room that the window needs.
-use Rattle.command_rules.specs.Rosters.{Run, plain_run}
+use Rattle.hub_core.proofs.Prelude.{List, Run, Some, [], ap, arith, length, length-append, map, most_entries, most_items, option_map, plain_run, refl, same_Some, slice_get, slice_get-map, sym, ℕ, ◌++◌, ◌+◌, ◌∙◌, ◌∷◌, ◌≡◌, ◌≤◌}
 use Rattle.command_rules.specs.declared.rosters.RosterRun.{RosterRun}
-use Rattle.hub_core.specs.Bounds.{most_entries, most_items}
-use Rattle.std.proofs.Common.{ap, arith, length-append, refl, sym, ◌∙◌}
-use Rattle.std.proofs.lemmas.Option.{same_Some, slice_get-map}
-use Rattle.std.specs.Prelude.{List, Some, [], length, map, option_map, slice_get, ℕ, ◌+◌, ◌++◌, ◌∷◌, ◌≡◌, ◌≤◌}
 
 pub joined_entries : (runs : List Run) (q : Run) (devices rounds spare so_far : ℕ) → most_entries (length runs) devices rounds ≤ spare + so_far → most_entries (length (runs ++ q ∷ [])) devices rounds ≤ (spare + 132) + so_far
 joined_entries runs q devices rounds spare so_far room = let long = length-append runs (q ∷ []) in rw long (omega (arith, room))

@@ -1,33 +1,14 @@
 -- What the type of a window keeps of its parts is kept where there is more room, and where a run joins.
-use Rattle.command_rules.specs.Rosters.{Run}
-use Rattle.device_states.specs.Devices.{Shown}
-use Rattle.history_book.proofs.Cited.{ReadsOwn, same_reading}
-use Rattle.history_book.specs.Histories.{entries_of}
+use Rattle.hub_core.proofs.Prelude.{Command, DeviceNo, Grips, HasRoomLeft, HeldTokensAre, HistoryState, HubIsKept, Inside, IsOrderOf, IsWellFormed, IsWhole, Item, None, OpenHub, Option, OrderIsBeside, ReadsOwn, Run, Setting, Shown, Some, [], arith, common_steps, configuration_of, entries_of, length, length-append, most_items, open_of, point, read_in, same_reading, slice_get, subst, sym, ℕ, ◌++◌, ◌+◌, ◌<◌, ◌∙◌, ◌∷◌, ◌≡◌, ◌≤◌}
 use Rattle.history_book.specs.Joined.{with_joined}
-use Rattle.history_book.specs.ReadHistories.{HistoryState, read_in}
-use Rattle.history_book.specs.Settings.{Setting}
-use Rattle.history_book.specs.WellFormed.{IsWellFormed}
 use Rattle.home_types.specs.Limits.{most_devices}
 use Rattle.home_types.specs.Listed.{Listed}
-use Rattle.home_types.specs.declared.commands.Command.{Command}
-use Rattle.home_types.specs.declared.items.Item.{Item}
-use Rattle.home_types.specs.declared.numbers.DeviceNo.{DeviceNo}
 use Rattle.hub_core.proofs.joins.JoinedBeside.{IsRoomierLine, joined_beside, roomier_beside}
 use Rattle.hub_core.proofs.joins.JoinedHubs.{reads_own}
 use Rattle.hub_core.proofs.joins.JoinedParts.{joined_hands, joined_hub}
 use Rattle.hub_core.proofs.joins.JoinedRooms.{joined_entries}
-use Rattle.hub_core.specs.Bounds.{most_items}
-use Rattle.hub_core.specs.HubsKept.{HasRoomLeft, HubIsKept, IsWhole, open_of}
 use Rattle.hub_core.specs.Joins.{MayJoin, joined}
-use Rattle.hub_core.specs.OpenHubs.{OpenHub, configuration_of}
-use Rattle.hub_core.specs.OrderStates.{IsOrderOf, OrderIsBeside}
-use Rattle.hub_core.specs.declared.open_windows.OpenWindow.TheInside.{Inside}
-use Rattle.lock_leasing.specs.Configurations.{Grips, point}
 use Rattle.serial_line.specs.KeptRuns.{KeepsOneMore}
-use Rattle.std.proofs.Common.{arith, length-append, subst, sym, ◌∙◌}
-use Rattle.std.proofs.lemmas.Grind.{common_steps}
-use Rattle.std.specs.Prelude.{None, Option, Some, [], length, slice_get, ℕ, ◌+◌, ◌++◌, ◌<◌, ◌∷◌, ◌≡◌, ◌≤◌}
-use Rattle.window_devices.specs.Checkouts.{HeldTokensAre}
 use Rattle.window_order.specs.Joins.{HasMoreRoom, HasRoomFor}
 use Rattle.window_order.specs.declared.order_states.OrderState.{OrderState}
 

@@ -2,37 +2,11 @@
 use Rattle.command_rules.proofs.Cited.{grown_holds}
 use Rattle.command_rules.specs.Apart.{meet}
 use Rattle.command_rules.specs.ClosedSets.{HoldsFirst, IsClosed, IsPart, chosen, grown, others, rearranged}
-use Rattle.command_rules.specs.Items.{of_run}
-use Rattle.command_rules.specs.Rosters.{run_no}
-use Rattle.history_book.proofs.Cited.{base_length, gap_closed}
-use Rattle.history_book.specs.Gaps.{bars, base_flags, base_of, front_for, gap_set, is_needed, line_for, split_of}
-use Rattle.history_book.specs.Histories.{entry}
-use Rattle.history_book.specs.Lines.{up_to_first}
-use Rattle.history_book.specs.Plans.{planned_times}
-use Rattle.history_book.specs.Readings.{Reading, is_live}
+use Rattle.hub_core.proofs.Prelude.{Bool, Fcfs, Grips, GripsFit, IsOrderOf, IsRead, Item, JustInTime, LineageState, List, Mark, Marked, MarksAreKept, MayArrange, Placed, Ran, Reading, Scheduler, Setting, Some, Timeline, Visibility, [], ap, arith, arranged, bars, base_flags, base_length, base_of, entry, false, fits_same, front_for, gap_closed, gap_set, if◌then◌else◌, in_order, is_live, is_needed, is_weak, items_of, length, length-map, line_for, map, marks_placed, may_follow, of_run, planned_times, point, read_kept, refl, run_no, same_parts, scheduler_of, slice_get, split_of, subst, suc, sym, true, up_to_first, with_item, zero, ℕ, ◌++◌, ◌+◌, ◌<◌, ◌∙◌, ◌∷◌, ◌≡◌}
 use Rattle.history_book.specs.Sealed.{sealed_in}
-use Rattle.history_book.specs.Settings.{Setting, is_weak, scheduler_of}
-use Rattle.history_book.specs.WellFormed.{may_follow}
-use Rattle.history_book.specs.declared.entries.Entry.TheVariants.{Placed}
-use Rattle.home_types.specs.declared.items.Item.TheVariants.{Ran}
-use Rattle.home_types.specs.declared.items.Item.{Item}
-use Rattle.home_types.specs.declared.modes.Scheduler.TheVariants.{Fcfs, JustInTime, Timeline}
-use Rattle.home_types.specs.declared.modes.Scheduler.{Scheduler}
 use Rattle.home_types.specs.declared.modes.Visibility.TheVariants.{Eventual, Global, Partitioned, Weak}
-use Rattle.home_types.specs.declared.modes.Visibility.{Visibility}
 use Rattle.hub_core.proofs.kept.SealedOrders.{sealed_is}
-use Rattle.hub_core.specs.OrderStates.{IsOrderOf}
-use Rattle.lineage_table.specs.Lineages.{LineageState}
-use Rattle.lock_leasing.specs.Configurations.{Grips, point}
-use Rattle.lock_leasing.specs.Places.{GripsFit, in_order}
 use Rattle.serial_line.proofs.Cited.{kept_meet, line_rearranged}
-use Rattle.serial_line.specs.Marks.{Mark, Marked, items_of, with_item}
-use Rattle.std.proofs.Common.{ap, arith, refl, subst, sym, ◌∙◌}
-use Rattle.std.proofs.lemmas.List.{length-map}
-use Rattle.std.specs.Prelude.{Bool, List, Some, [], false, if◌then◌else◌, length, map, slice_get, suc, true, zero, ℕ, ◌++◌, ◌+◌, ◌<◌, ◌∷◌, ◌≡◌}
-use Rattle.window_order.proofs.Cited.{IsRead, fits_same, marks_placed, read_kept, same_parts}
-use Rattle.window_order.specs.MarksKept.{MarksAreKept}
-use Rattle.window_order.specs.OrderStates.{MayArrange, arranged}
 
 -- The set of the timeline may be brought to the front
 

@@ -1,9 +1,7 @@
 -- Where no run is marked, each that is marked is blocked.
 use Rattle.blocked_runs.specs.Marks.{BlockedState, NoneMarked}
 use Rattle.hub_core.specs.BlockedMarks.{AreBlocked}
-use Rattle.lock_leasing.specs.Configurations.{Configuration}
-use Rattle.std.proofs.Common.{sym, ◌∙◌}
-use Rattle.std.specs.Prelude.{false, true, ◌≡◌}
+use Rattle.hub_core.proofs.Prelude.{Configuration, false, sym, true, ◌∙◌, ◌≡◌}
 
 -- where no run is marked, each that is marked is blocked
 pub none_blocked : (s : Configuration) (b : BlockedState) → NoneMarked b → AreBlocked s b

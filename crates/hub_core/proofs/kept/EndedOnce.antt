@@ -1,19 +1,6 @@
 -- How many runs have ended, and how many are doomed: no more than there are.
-use Rattle.history_book.proofs.Cited.{put_keeps, put_other, put_same}
-use Rattle.history_book.specs.Histories.{entry}
-use Rattle.history_book.specs.Readings.{OfRun, Reading, nothing_read, put}
-use Rattle.history_book.specs.Settings.{Setting}
-use Rattle.history_book.specs.WellFormed.{IsWellFormed, along, may_follow}
-use Rattle.history_book.specs.declared.entries.End.TheVariants.{Aborted, Committed}
-use Rattle.history_book.specs.declared.entries.End.{End}
-use Rattle.history_book.specs.declared.entries.Entry.TheVariants.{Arrived, Did, Doomed, Ended, Fell, Placed, Rose, Undid}
-use Rattle.history_book.specs.declared.entries.Entry.{Entry}
+use Rattle.hub_core.proofs.Prelude.{Aborted, Arrived, Bool, Committed, Did, Doomed, End, Ended, Entry, Fell, IsTrue, IsWellFormed, List, None, OfRun, Option, Placed, Reading, Rose, Setting, Some, Undid, [], along, ap, arith, common_steps, cond, count_by, count_cons, entry, false, fold, is_doom, is_end, is_none, is_some, length, may_follow, nothing_read, put, put_keeps, put_other, put_same, refl, suc, true, zero, ℕ, ◌*◌, ◌+◌, ◌<◌, ◌∙◌, ◌∷◌, ◌≡◌, ◌≤◌}
 use Rattle.hub_core.proofs.kept.Sizes.{at_most_one, one_if, run_within, sum_below, sum_fits, sum_more, sum_same}
-use Rattle.hub_core.specs.Bounds.{is_doom, is_end}
-use Rattle.legal_days.proofs.Cited.{count_cons}
-use Rattle.std.proofs.Common.{ap, arith, cond, refl, ◌∙◌}
-use Rattle.std.proofs.lemmas.Grind.{common_steps}
-use Rattle.std.specs.Prelude.{Bool, IsTrue, List, None, Option, Some, [], count_by, false, fold, is_none, is_some, length, suc, true, zero, ℕ, ◌*◌, ◌+◌, ◌<◌, ◌∷◌, ◌≡◌, ◌≤◌}
 
 -- of how many of the first runs the test holds
 runs_that : (OfRun → Bool) → Reading → ℕ → ℕ

@@ -1,25 +1,8 @@
 -- What is kept of a history stays so where a device fails or comes back.
-use Rattle.command_rules.specs.Items.{is_ran, of_run}
-use Rattle.command_rules.specs.Rosters.{device_no}
-use Rattle.history_book.specs.Histories.{entry}
-use Rattle.history_book.specs.Lines.{before, put_before}
-use Rattle.history_book.specs.Readings.{Reading, did, is_live}
-use Rattle.history_book.specs.Settings.{Setting}
-use Rattle.history_book.specs.WellFormed.{may_follow}
-use Rattle.history_book.specs.declared.entries.Entry.TheVariants.{Fell, Rose}
-use Rattle.home_types.specs.declared.items.Item.TheVariants.{Back, Failed, Ran}
-use Rattle.home_types.specs.declared.items.Item.{Item}
+use Rattle.hub_core.proofs.Prelude.{ActsInTurn, Back, Bool, Configuration, Failed, Fell, Grips, HistoryIsKept, IsTrue, Item, List, None, Ran, Reading, Rose, Setting, Some, [], ap, awaits_there, before, cond, cons_option, device_no, did, entry, false, if◌then◌else◌, is_live, is_none, is_placed_later, is_ran, is_some, list_all, live_runs, may_follow, not, of_run, placed_in_order, point, put_before, read_of, refl, stamp_of, sym, take_while-cons, true, ℕ, ◌&&◌, ◌+◌, ◌∙◌, ◌∷◌, ◌≡◌, ◌≤◌}
 use Rattle.hub_core.proofs.kept.Followed.{followed_step}
 use Rattle.hub_core.proofs.kept.HistoryKept.{AreFewer, MayAdd, first_less, turn_less}
 use Rattle.hub_core.proofs.kept.LineOrder.{same_order}
-use Rattle.hub_core.specs.HubKept.{ActsInTurn, HistoryIsKept, is_placed_later, placed_in_order}
-use Rattle.lock_leasing.specs.Configurations.{Configuration, Grips, point, read_of}
-use Rattle.lock_leasing.specs.Words.{live_runs, stamp_of}
-use Rattle.std.proofs.Common.{ap, cond, refl, sym, ◌∙◌}
-use Rattle.std.proofs.lemmas.List.Sums.{take_while-cons}
-use Rattle.std.specs.List.{cons_option, list_all}
-use Rattle.std.specs.Prelude.{Bool, IsTrue, List, None, Some, [], false, if◌then◌else◌, is_none, is_some, not, true, ℕ, ◌&&◌, ◌+◌, ◌∷◌, ◌≡◌, ◌≤◌}
-use Rattle.window_order.proofs.Cited.{awaits_there}
 
 -- The runs of a line with an event
 

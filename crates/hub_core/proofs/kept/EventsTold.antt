@@ -2,40 +2,15 @@
 use Rattle.device_order.specs.Usages.{is_up}
 use Rattle.failure_serialization.proofs.Cited.{lost_acquired}
 use Rattle.failure_serialization.specs.Events.{event_place, is_sound, is_up_view, lost_run, waits as waits_by, place_or_end}
-use Rattle.history_book.proofs.Cited.{doom_is, each_found}
+use Rattle.hub_core.proofs.Prelude.{Bool, Cause, Grip, Grips, IsRead, IsWellFormed, Kept, LineageIsKept, LineageState, List, Mark, MarksAreKept, None, Option, Point, Probes, Reading, RunNo, Setting, Some, access_read, along_none, and-false, ap, arith, awaits_there, commits_write, common_steps, did, doom_is, each_found, entries_of, eqb-true, event_before, event_last, event_place_of, false, find, grips_command, has_access, if◌then◌else◌, is_acquired, is_command, is_device, is_doomed, is_live, is_none, is_of, is_scheduled, is_some, is_weak, length, length-map, list_any, live_run, live_runs, live_runs_live, live_stands, lost_by, lost_read, not, option_map, pends, point, reading, refl, run_stands, status_by_answers, sym, three, true, unwrap_or, uses, waiting_read, ℕ, ◌&&◌, ◌==◌, ◌||◌, ◌∙◌, ◌≡◌}
 use Rattle.history_book.specs.Books.{doom_of}
-use Rattle.history_book.specs.Histories.{entries_of, reading}
-use Rattle.history_book.specs.Readings.{Reading, did, is_doomed, is_live, pends}
-use Rattle.history_book.specs.Settings.{Setting, is_device, is_weak}
-use Rattle.history_book.specs.WellFormed.{IsWellFormed}
-use Rattle.history_book.specs.declared.entries.Cause.{Cause}
-use Rattle.history_book.specs.declared.entries.Kept.{Kept}
 use Rattle.home_types.specs.declared.commands.View.TheVariants.{Down, Up}
 use Rattle.home_types.specs.declared.commands.View.{View}
-use Rattle.home_types.specs.declared.numbers.RunNo.{RunNo}
-use Rattle.lineage_table.specs.Accesses.{has_access, is_acquired, is_of, is_scheduled}
-use Rattle.lineage_table.specs.Lineages.{LineageState}
 use Rattle.lineage_table.specs.declared.accesses.Access.{Access}
 use Rattle.lineage_table.specs.declared.accesses.Status.TheVariants.{Acquired, Released, Scheduled}
-use Rattle.lock_leasing.proofs.Cited.{live_runs_live, run_place}
-use Rattle.lock_leasing.specs.Configurations.{Grip, Grips, Point, grips_command, is_command, point}
-use Rattle.lock_leasing.specs.declared.purposes.Purpose.TheVariants.{Probes}
-use Rattle.lock_leasing.specs.Tables.{status_by_answers, uses}
-use Rattle.lock_leasing.specs.Waits.{lost_by}
-use Rattle.lock_leasing.specs.Words.{live_runs}
-use Rattle.serial_line.specs.Marks.{Mark}
-use Rattle.std.proofs.Common.{ap, arith, refl, sym, ◌∙◌}
-use Rattle.std.proofs.Math.Bool.{and-false}
-use Rattle.std.proofs.lemmas.Bool.{eqb-true}
-use Rattle.std.proofs.lemmas.Grind.{common_steps}
-use Rattle.std.proofs.lemmas.List.{length-map}
-use Rattle.std.specs.List.{list_any}
-use Rattle.std.specs.Prelude.{Bool, List, None, Option, Some, false, find, if◌then◌else◌, is_none, is_some, length, not, option_map, true, unwrap_or, ℕ, ◌&&◌, ◌==◌, ◌||◌, ◌≡◌}
-use Rattle.window_order.proofs.Cited.{IsRead, along_none, awaits_there, event_before, event_last, event_place_of, live_run, live_stands, lost_read, run_stands, three, waiting_read}
+use Rattle.lock_leasing.proofs.Cited.{run_place}
 use Rattle.window_order.specs.LostRuns.{first_waiting_run, is_access_waiting, is_lost_access}
-use Rattle.window_order.specs.MarksKept.{MarksAreKept}
 use Rattle.window_order.specs.OrderKept.{OrderIsKept}
-use Rattle.window_order.specs.TableKept.{LineageIsKept, access_read, commits_write}
 
 -- no access is of no run
 pub none_of_detector : (p : Point) (d : ℕ) (s : LineageState) → IsRead p.setting p.reading → LineageIsKept p d s → has_access 0 s.accesses ≡ false

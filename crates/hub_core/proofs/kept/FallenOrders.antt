@@ -1,43 +1,16 @@
 -- A device fails, and line and table are kept: where its failure stands, and with the entry that comes behind it.
-use Rattle.window_order.proofs.Cited.{IsOut, IsRead, awaits_there, changes_one, died_table, event_last, event_place_of, fits_same, marks_died, marks_fell, marks_undo_home, marks_undone, out_is, undo_died_table}
-use Rattle.lock_leasing.specs.Words.{live_runs}
-use Rattle.lineage_table.specs.Accesses.{is_scheduled, status_of}
+use Rattle.hub_core.proofs.Prelude.{Bool, ChangesEach, Commands, DeviceNo, Did, Down, Failed, Fell, Grips, GripsFit, HasFallen, HistoryState, IsOrderOf, IsOut, IsRead, IsWellFormed, Kept, LineageIsKept, LineageState, List, Mark, Marked, MarksAreKept, MayNote, None, OrderIsBeside, Reading, Setting, Some, Undid, Undoes, [], accesses_at, answered_change, answered_lineage, ap, arith, awaits_there, changes_one, command_at, counted_up, did, died_table, entries_of, entry, eq-eqb, event_last, event_place_of, false, fits_same, if◌then◌else◌, is_device, is_done_there, is_first, is_open, is_scheduled, is_weak, length, lineage_at, live_runs, marks_died, marks_fell, marks_undo_home, marks_undone, none_found, not, noted_first, option_map, out_is, point, put, read_in, refl, run_no, status_of, subst, sym, true, turned_change, undo_died_table, unwrap_or, with_entry, with_item, with_lineage, ℕ, ◌&&◌, ◌+◌, ◌<◌, ◌==◌, ◌∙◌, ◌≡◌}
 use Rattle.lineage_table.specs.declared.accesses.Access.{Access}
-use Rattle.lock_leasing.specs.Places.{GripsFit}
 use Rattle.hub_core.proofs.kept.ProbeSteps.{order_fell}
-use Rattle.command_rules.specs.Rosters.{command_at, run_no}
 use Rattle.failure_serialization.proofs.Cited.{died_waits}
 use Rattle.failure_serialization.specs.Events.{event_place, place_or_end}
-use Rattle.history_book.specs.Histories.{entries_of, entry}
-use Rattle.history_book.specs.Readings.{Reading, did, is_open, put}
-use Rattle.history_book.specs.Settings.{Setting, is_device, is_weak}
-use Rattle.history_book.specs.WellFormed.{IsWellFormed}
-use Rattle.history_book.specs.declared.entries.Entry.TheVariants.{Did, Fell, Undid}
-use Rattle.history_book.specs.declared.entries.Kept.{Kept}
-use Rattle.home_types.specs.declared.commands.Answer.TheVariants.{Down}
 use Rattle.home_types.specs.declared.commands.View.TheVariants.{Down as ViewedDown}
-use Rattle.home_types.specs.declared.items.Item.TheVariants.{Failed}
-use Rattle.home_types.specs.declared.numbers.DeviceNo.{DeviceNo}
 use Rattle.hub_core.proofs.kept.EventsTold.{event_told, line_size, sound_is}
-use Rattle.window_devices.proofs.Cited.{none_found}
 use Rattle.hub_core.proofs.kept.OrderSteps.{entry_kept, length_with, may_note, order_answered_weakly, read_more}
-use Rattle.hub_core.specs.OrderStates.{HasFallen, IsOrderOf, OrderIsBeside}
-use Rattle.window_order.specs.OrderStates.{MayNote, is_first, noted_first}
-use Rattle.history_book.specs.ReadHistories.{HistoryState, read_in, with_entry}
-use Rattle.lineage_table.specs.Lineages.{LineageState, accesses_at, counted_up, lineage_at, with_lineage}
 use Rattle.lineage_table.specs.declared.accesses.Status.TheVariants.{Acquired, Scheduled}
-use Rattle.lock_leasing.specs.Configurations.{Grips, point}
-use Rattle.lock_leasing.specs.declared.purposes.Purpose.TheVariants.{Commands, Undoes}
 use Rattle.serial_line.specs.KeptRuns.{AreKeptOf}
-use Rattle.serial_line.specs.Marks.{Mark, Marked, with_item}
-use Rattle.std.proofs.Common.{ap, arith, refl, subst, sym, ◌∙◌}
-use Rattle.std.specs.Prelude.{Bool, List, None, Some, [], false, if◌then◌else◌, length, not, option_map, true, unwrap_or, ℕ, ◌&&◌, ◌+◌, ◌<◌, ◌==◌, ◌≡◌}
 use Rattle.hub_core.proofs.kept.TableFits.{fits_ordered}
-use Rattle.std.proofs.lemmas.Bool.{eq-eqb}
-use Rattle.window_order.specs.MarksKept.{MarksAreKept}
 use Rattle.window_order.specs.OrderKept.{OrderIsKept}
-use Rattle.window_order.specs.TableChanges.{ChangesEach, answered_change, answered_lineage, is_done_there, turned_change}
-use Rattle.window_order.specs.TableKept.{LineageIsKept}
 
 -- Where its failure stands
 

@@ -1,34 +1,8 @@
 -- A run that follows another is placed after the end of that one and stands behind it, with one entry more.
-use Rattle.command_rules.specs.Items.{is_ran}
-use Rattle.command_rules.specs.Rosters.{followed_by, follows, run_no}
-use Rattle.history_book.proofs.Cited.{Standing, any_insert, any_left, any_other, any_put_before, any_without, is_abort, line_any, line_follows, put_all, put_keeps, put_other}
-use Rattle.history_book.specs.Gaps.{front_for, line_for, split_of}
-use Rattle.history_book.specs.Histories.{entry}
-use Rattle.history_book.specs.Lines.{behind, put_before, without}
-use Rattle.history_book.specs.Plans.{planned_times}
-use Rattle.history_book.specs.Readings.{OfRun, PlacedAt, Reading, is_committed, is_committing, nothing_read, put}
-use Rattle.history_book.specs.Settings.{Setting}
-use Rattle.history_book.specs.declared.entries.End.{End}
-use Rattle.history_book.specs.declared.entries.End.TheVariants.{Aborted, Committed}
-use Rattle.history_book.specs.declared.entries.Entry.{Entry}
-use Rattle.history_book.specs.declared.entries.Entry.TheVariants.{Arrived, Did, Doomed, Ended, Fell, Placed, Rose, Undid}
-use Rattle.home_types.specs.declared.items.Item.{Item}
-use Rattle.home_types.specs.declared.items.Item.TheVariants.{Back, Failed, Ran}
-use Rattle.home_types.specs.declared.numbers.RunNo.{RunNo}
+use Rattle.hub_core.proofs.Prelude.{Aborted, Arrived, Back, Bool, Committed, Did, Doomed, End, Ended, Entry, Failed, Fell, FollowersStand, Grips, IsTrue, Item, List, None, OfRun, Option, Placed, PlacedAt, Ran, Reading, Rose, RunNo, Setting, Some, Standing, Undid, [], and_parts, any_insert, any_left, any_other, any_put_before, any_without, ap, arith, behind, binds, common_steps, cond, drop, entry, eq-eqb, false, follow_wait, followed_by, follows, front_for, if◌then◌else◌, in_order, is_abort, is_committed, is_committing, is_none, is_ran, is_some, line_any, line_follows, line_for, list_any, not, nothing_read, option_map, or-true, planned_times, point, put, put_all, put_before, put_keeps, put_other, refl, run_no, split_of, subst, sym, take, take-append-drop, true, unwrap_or, without, ℕ, ◌&&◌, ◌++◌, ◌==◌, ◌||◌, ◌∙◌, ◌∷◌, ◌≡◌, ◌≢◌}
 use Rattle.hub_core.proofs.windows.StrongChoices.{IsPlacing}
-use Rattle.hub_core.specs.HubKept.{FollowersStand}
-use Rattle.lock_leasing.specs.Configurations.{Grips, point}
 use Rattle.lock_leasing.specs.Order.{is_in_line}
-use Rattle.lock_leasing.specs.Places.{binds, in_order}
-use Rattle.lock_leasing.specs.Waits.{follow_wait}
-use Rattle.std.proofs.Common.{ap, arith, cond, refl, subst, sym, ◌∙◌}
-use Rattle.std.proofs.Math.Bool.{or-true}
-use Rattle.std.proofs.lemmas.Bool.{and_parts, eq-eqb}
-use Rattle.std.proofs.lemmas.Grind.{common_steps}
-use Rattle.std.proofs.lemmas.List.{take-append-drop}
 use Rattle.std.proofs.lemmas.List.Folds.{list_any-append}
-use Rattle.std.specs.List.{list_any}
-use Rattle.std.specs.Prelude.{Bool, IsTrue, List, None, Option, Some, [], drop, false, if◌then◌else◌, is_none, is_some, not, option_map, take, true, unwrap_or, ℕ, ◌&&◌, ◌++◌, ◌==◌, ◌||◌, ◌∷◌, ◌≡◌, ◌≢◌}
 
 -- What stands behind a run
 

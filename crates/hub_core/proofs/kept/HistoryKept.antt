@@ -1,47 +1,13 @@
 -- What is kept of a history and the grips, with one entry more.
-use Rattle.command_rules.specs.Items.{is_ran}
-use Rattle.command_rules.specs.Rosters.{device_no, run_no}
-use Rattle.history_book.proofs.Cited.{Along_more, Standing, any_taken, did_live, doomed_live, each_more, entries_on, put_keeps, put_other, put_same, shapes, standing, stands_in}
-use Rattle.history_book.specs.Histories.{entries_of, entry, kept_by, moment_of, reading}
-use Rattle.history_book.specs.Lines.{before, without}
-use Rattle.history_book.specs.Gaps.{front_for}
-use Rattle.history_book.specs.Plans.{planned_times}
-use Rattle.history_book.specs.Readings.{OfRun, PlacedAt, Reading, did, has_written, is_live, nothing_read, put}
-use Rattle.history_book.specs.Settings.{Setting, devices_of, is_strict, scheduler_of}
-use Rattle.history_book.specs.WellFormed.{each_entry, may_follow}
-use Rattle.history_book.specs.declared.entries.Cause.{Cause}
-use Rattle.history_book.specs.declared.entries.End.TheVariants.{Aborted, Committed}
-use Rattle.history_book.specs.declared.entries.Entry.{Entry}
-use Rattle.history_book.specs.declared.entries.Entry.TheVariants.{Arrived, Did, Doomed, Ended, Placed, Undid}
-use Rattle.home_types.specs.declared.commands.Answer.{Answer}
-use Rattle.home_types.specs.declared.items.Item.TheVariants.{Ran}
-use Rattle.home_types.specs.declared.modes.Scheduler.TheVariants.{Fcfs, JustInTime, Timeline}
-use Rattle.home_types.specs.declared.modes.Scheduler.{Scheduler}
+use Rattle.hub_core.proofs.Prelude.{Aborted, ActsInTurn, Along_more, Answer, Arrived, Bool, Cause, Commands, Committed, Configuration, Did, Doomed, Ended, Entry, Fcfs, FollowersStand, Grip, Grips, HistoryIsKept, HoldsNone, IsScheduled, IsTrue, JustInTime, List, MayOpen, None, NoneAnsweredDoomed, OfRun, Option, Placed, PlacedAt, PlacesAreScheduled, Purpose, Ran, Reading, Scheduler, Setting, Some, Standing, Timeline, Undid, Visibility, [], abort_is_justified, and-false, and_parts, any_taken, ap, arith, before, common_steps, cond, device_no, devices_of, did, did_live, doomed_live, down_at_end, each_entry, each_more, entries_of, entries_on, entry, false, find, front_for, grips_command, has_grip, has_touched, has_written, if◌then◌else◌, is_command, is_fcfs, is_live, is_mode, is_none, is_ran, is_some, is_strict, keeps_leases, kept_by, length, list_all, list_any, live_before, live_runs, may_follow, moment_of, nat_lt, not, nothing_read, option_map, placed_in_order, planned_times, point, point_of, put, put_keeps, put_other, put_same, read_of, reading, refl, run_no, scheduler_of, shapes, shows, stamp_of, standing, stands_in, strict_wait, subst, sym, true, unwrap_or, without, ℕ, ◌&&◌, ◌++◌, ◌==◌, ◌||◌, ◌∙◌, ◌∷◌, ◌≡◌, ◌≢◌, ◌≤◌}
 use Rattle.home_types.specs.declared.modes.Visibility.TheVariants.{Eventual, Global, Partitioned, Weak}
-use Rattle.home_types.specs.declared.modes.Visibility.{Visibility}
 use Rattle.hub_core.proofs.kept.Followed.{followed_placed, followed_step}
 use Rattle.hub_core.proofs.steps.Afters.{read_with}
 use Rattle.hub_core.proofs.kept.LineOrder.{StampsAreBelow, before_more, end_line, is_alone_by, live_before_without, order_at_end, order_without, same_order, stamps_below, strict_fewer_by}
 use Rattle.hub_core.proofs.windows.StrongChoices.{IsPlacing, live_stands}
 use Rattle.legal_days.specs.CleanReads.{entry_is_clean}
-use Rattle.hub_core.specs.HubKept.{ActsInTurn, FollowersStand, HistoryIsKept, NoneAnsweredDoomed, keeps_leases, placed_in_order}
 use Rattle.legal_days.specs.Isolation.{is_alone, is_isolated}
-use Rattle.legal_days.specs.JustifiedAborts.{abort_is_justified, shows}
-use Rattle.hub_core.specs.Openings.{MayOpen, is_fcfs, is_mode}
-use Rattle.lock_leasing.specs.Configurations.{Configuration, Grip, Grips, grips_command, has_grip, is_command, point, point_of, read_of}
-use Rattle.lock_leasing.specs.declared.purposes.Purpose.TheVariants.{Commands}
-use Rattle.lock_leasing.specs.declared.purposes.Purpose.{Purpose}
-use Rattle.lock_leasing.specs.Places.{IsScheduled, PlacesAreScheduled}
-use Rattle.lock_leasing.specs.Waits.{down_at_end, strict_wait}
-use Rattle.lock_leasing.specs.Words.{has_touched, live_before, live_runs, stamp_of}
-use Rattle.std.proofs.Common.{ap, arith, cond, refl, subst, sym, ◌∙◌}
-use Rattle.std.proofs.Math.Bool.{and-false}
-use Rattle.std.proofs.lemmas.Bool.{and_parts}
-use Rattle.std.proofs.lemmas.Grind.{common_steps}
 use Rattle.std.proofs.lemmas.List.Folds.{list_all-append}
-use Rattle.std.specs.List.{list_all, list_any}
-use Rattle.std.specs.Prelude.{Bool, IsTrue, List, None, Option, Some, [], false, find, if◌then◌else◌, is_none, is_some, length, nat_lt, not, option_map, true, unwrap_or, ℕ, ◌&&◌, ◌++◌, ◌==◌, ◌||◌, ◌∷◌, ◌≡◌, ◌≢◌, ◌≤◌}
-use Rattle.window_order.proofs.Cited.{HoldsNone}
 
 -- what an entry has to be that comes at this moment, and leaves these grips out
 pub record MayAdd (s : Configuration) (e : Entry) (m : ℕ) (g : Grips) : Type 0 where

@@ -1,24 +1,5 @@
 -- What is kept of a hub's configuration is so at the start, and stays so with each step of a run.
-use Rattle.command_rules.specs.Rosters.{device_no, is_run, run_no}
-use Rattle.history_book.proofs.Cited.{some_is}
-use Rattle.history_book.specs.Histories.{entries_of, entry, kept_by, reading}
-use Rattle.history_book.specs.Lines.{Split}
-use Rattle.history_book.specs.Gaps.{split_of}
-use Rattle.history_book.specs.Readings.{PlacedAt, Reading, asks_on, has_written, is_doomed, is_live, next_of, put, sees_down}
-use Rattle.history_book.specs.Settings.{Setting, is_device, is_weak, scheduler_of}
-use Rattle.history_book.specs.WellFormed.{along, may_follow}
-use Rattle.history_book.specs.declared.entries.Cause.TheVariants.{DownAtEnd, MustDown, Revoked}
-use Rattle.history_book.specs.declared.entries.Cause.{Cause}
-use Rattle.history_book.specs.declared.entries.End.TheVariants.{Aborted, Committed}
-use Rattle.history_book.specs.declared.entries.Entry.TheVariants.{Arrived, Did, Doomed, Ended, Placed, Undid}
-use Rattle.history_book.specs.declared.entries.Entry.{Entry}
-use Rattle.history_book.specs.declared.entries.Kept.{Kept}
-use Rattle.home_types.specs.Commands.{refutes}
-use Rattle.home_types.specs.HomeStates.{stand_at}
-use Rattle.home_types.specs.Kinds.{has_value, kind_at}
-use Rattle.home_types.specs.declared.commands.Answer.TheVariants.{Down, Skipped}
-use Rattle.home_types.specs.declared.commands.Command.{Command}
-use Rattle.home_types.specs.declared.modes.Scheduler.TheVariants.{Fcfs}
+use Rattle.hub_core.proofs.Prelude.{Aborted, ActsInTurn, Arrived, At, Bool, Cause, Command, Commands, Committed, Configuration, ConfigurationIsKept, DeniedBy, Did, Doomed, Down, DownAtEnd, EachOut, Ended, Entry, Fcfs, Grip, Grips, GripsFit, HandsOut, HistoryIsKept, IsRead, IsScheduled, IsSkipped, IsToldDown, IsTrue, Kept, List, MayBeOut, MayOpen, Moves, MustDown, None, NoneAnsweredDoomed, Option, Placed, PlacedAt, Placing, Point, Probes, Purpose, Reading, Revoked, Setting, Skipped, Some, Split, Undid, Undoes, UndosFit, [], abort_is_justified, aborts_kept, after_choice, after_take, along, answers_down, ap, append-nil, append_assoc, arith, arrives_kept, asks_on, at_end, at_moment, both, busy_wait, commits_kept, common_steps, device_no, doomed_kept, down_doomed_kept, down_entries, down_kept, dropped_kept, effect_is, entries_of, entry, false, fold, goes_kept, has_grip, has_value, has_written, if◌then◌else◌, is_command, is_device, is_doomed, is_live, is_none, is_of_run, is_out, is_probed, is_run, is_some, is_weak, joined_order, kept_by, kind_at, lease_deadline, length, max, may_follow, names_values_of, nat_lt, next_of, not, opened, option_map, overdue_for, point, probes_of, put, read_facts, read_of, reading, refl, refutes, run_no, scheduled_is_clear, scheduled_place, scheduled_stands, scheduler_of, sees_down, shows, skipped_holds, skipped_kept, some_is, split_of, stand_at, starts_kept, strict_wait, subst, sym, told_holds, true, undo_fits, undo_goes_kept, unwrap_or, value_without, ℕ, ◌&&◌, ◌++◌, ◌+◌, ◌<◌, ◌==◌, ◌||◌, ◌∙◌, ◌∷◌, ◌≡◌, ◌≤◌}
 use Rattle.hub_core.proofs.steps.Afters.{read_with}
 use Rattle.hub_core.proofs.steps.Causes.{IsClean, Shows, take_is_clean, take_shows}
 use Rattle.hub_core.proofs.steps.Choices.{Commanding, Enters, IsNext, Skipping, decide_is}
@@ -28,21 +9,6 @@ use Rattle.hub_core.proofs.windows.StrongChoices.{IsPlacing, StrongSteps, served
 use Rattle.hub_core.proofs.steps.Takes.{Follows, take_follows}
 use Rattle.hub_core.proofs.kept.WrittenValues.{ValuesFit, undo_value, writes_fit}
 use Rattle.legal_days.specs.CleanReads.{entry_is_clean}
-use Rattle.hub_core.specs.HubKept.{ActsInTurn, ConfigurationIsKept, EachOut, HistoryIsKept, NoneAnsweredDoomed, UndosFit, is_of_run, is_probed, probes_of, undo_fits}
-use Rattle.legal_days.specs.JustifiedAborts.{abort_is_justified, shows}
-use Rattle.hub_core.specs.Openings.{MayOpen, names_values_of}
-use Rattle.hub_core.specs.Steps.{HandsOut, Moves, after_choice, after_take, answers_down, at_moment, down_entries, opened}
-use Rattle.lock_leasing.proofs.Cited.{effect_is, scheduled_is_clear, scheduled_stands}
-use Rattle.lock_leasing.specs.Configurations.{Configuration, Grip, Grips, Point, has_grip, is_command, is_out, point, read_of}
-use Rattle.lock_leasing.specs.declared.purposes.Purpose.TheVariants.{Commands, Probes, Undoes}
-use Rattle.lock_leasing.specs.declared.purposes.Purpose.{Purpose}
-use Rattle.lock_leasing.specs.Places.{At, DeniedBy, GripsFit, IsScheduled, MayBeOut, Placing, at_end, scheduled_place}
-use Rattle.lock_leasing.specs.Waits.{busy_wait, strict_wait}
-use Rattle.lock_leasing.specs.Words.{lease_deadline, overdue_for, value_without}
-use Rattle.std.proofs.Common.{ap, append-nil, append_assoc, arith, refl, subst, sym, ◌∙◌}
-use Rattle.std.proofs.lemmas.Grind.{common_steps}
-use Rattle.std.specs.Prelude.{Bool, IsTrue, List, None, Option, Some, [], false, fold, if◌then◌else◌, is_none, is_some, length, max, nat_lt, not, option_map, true, unwrap_or, ℕ, ◌&&◌, ◌++◌, ◌+◌, ◌<◌, ◌==◌, ◌||◌, ◌∷◌, ◌≡◌, ◌≤◌}
-use Rattle.window_order.proofs.Cited.{IsRead, IsSkipped, IsToldDown, aborts_kept, arrives_kept, both, commits_kept, doomed_kept, down_doomed_kept, down_kept, dropped_kept, goes_kept, joined_order, read_facts, skipped_holds, skipped_kept, starts_kept, told_holds, undo_goes_kept}
 use Rattle.window_order.specs.OrderKept.{OrderIsKept}
 
 -- Restarts and probes

@@ -1,13 +1,5 @@
 -- What is kept of a configuration in each model, from what is kept by its own.
-use Rattle.window_order.proofs.Cited.{IsRead, asked_up, read_facts, restored_down, stands_home}
-use Rattle.lock_leasing.specs.Words.{standing_value}
-use Rattle.history_book.specs.Histories.{entries_of}
-use Rattle.history_book.specs.Readings.{put}
-use Rattle.history_book.specs.Settings.{Setting, is_device, is_weak}
-use Rattle.home_types.specs.HomeStates.{stand_at}
-use Rattle.home_types.specs.Kinds.{has_value, kind_at}
-use Rattle.device_gate.specs.Calls.{has_died}
-use Rattle.device_gate.specs.declared.slips.Told.{Told}
+use Rattle.hub_core.proofs.Prelude.{Bool, Configuration, ConfigurationIsKept, Grip, IsKeptByModel, IsRead, IsTrue, MayOpen, None, Option, Probes, Setting, Some, Told, Undoes, after_give, after_take, after_take_probe, arith, asked_up, at_moment, common_steps, entries_of, false, has_died, has_value, is_device, is_none, is_weak, kind_at, length, ltb-true, max, not, opened, point_of, put, read_facts, read_of, refl, restored_down, stand_at, standing_value, stands_home, subst, sym, true, ℕ, ◌&&◌, ◌<◌, ◌==◌, ◌∙◌, ◌≡◌, ◌≤◌}
 use Rattle.hub_core.proofs.kept.Kept.{kept_at, starts, take_kept}
 use Rattle.hub_core.proofs.kept.ProbesKept.{take_probe_kept}
 use Rattle.hub_core.proofs.kept.ReturnsKept.{Brings, give_kept}
@@ -16,17 +8,7 @@ use Rattle.hub_core.proofs.weak.WeakClosings.{weak_justified}
 use Rattle.hub_core.proofs.weak.WeakTakes.{weak_opened, weak_take}
 use Rattle.hub_core.proofs.weak.WeakGives.{weak_give}
 use Rattle.hub_core.proofs.weak.WeakProbes.{weak_standing, weak_take_probe}
-use Rattle.hub_core.specs.HubKept.{ConfigurationIsKept}
-use Rattle.hub_core.specs.KeptByModel.{IsKeptByModel}
-use Rattle.hub_core.specs.Openings.{MayOpen}
-use Rattle.hub_core.specs.Steps.{after_give, after_take, after_take_probe, at_moment, opened}
 use Rattle.hub_core.specs.WeakKept.{WeakIsKept}
-use Rattle.lock_leasing.specs.Configurations.{Configuration, Grip, point_of, read_of}
-use Rattle.lock_leasing.specs.declared.purposes.Purpose.TheVariants.{Probes, Undoes}
-use Rattle.std.proofs.Common.{arith, refl, subst, sym, ◌∙◌}
-use Rattle.std.proofs.lemmas.Bool.{ltb-true}
-use Rattle.std.proofs.lemmas.Grind.{common_steps}
-use Rattle.std.specs.Prelude.{Bool, IsTrue, None, Option, Some, false, is_none, length, max, not, true, ℕ, ◌&&◌, ◌<◌, ◌==◌, ◌≡◌, ◌≤◌}
 
 -- From the one and the other
 

@@ -1,33 +1,9 @@
 -- The order of a line in which each run was placed before the runs behind it.
 use Rattle.command_rules.specs.ClosedSets.{rearranged}
-use Rattle.command_rules.specs.Items.{is_ran}
-use Rattle.command_rules.specs.Rosters.{Run, run_no, shares}
-use Rattle.history_book.proofs.Cited.{put_all}
-use Rattle.history_book.specs.Gaps.{gap_set, split_of}
-use Rattle.history_book.specs.Histories.{entry, reading}
-use Rattle.history_book.specs.Lines.{before, without}
-use Rattle.history_book.specs.Readings.{OfRun, PlacedAt, Reading, is_live, nothing_read, put}
-use Rattle.history_book.specs.Settings.{Setting, scheduler_of}
-use Rattle.history_book.specs.declared.entries.Entry.{Entry}
-use Rattle.history_book.specs.declared.entries.Entry.TheVariants.{Arrived, Did, Doomed, Ended, Fell, Placed, Rose, Undid}
-use Rattle.home_types.specs.declared.items.Item.{Item}
-use Rattle.home_types.specs.declared.items.Item.TheVariants.{Back, Failed, Ran}
-use Rattle.home_types.specs.declared.kinds.Kind.{Kind}
-use Rattle.home_types.specs.declared.modes.Scheduler.TheVariants.{Fcfs, JustInTime, Timeline}
-use Rattle.home_types.specs.declared.modes.Scheduler.{Scheduler}
-use Rattle.home_types.specs.declared.modes.Visibility.{Visibility}
+use Rattle.hub_core.proofs.Prelude.{Arrived, Back, Bool, Did, Doomed, Ended, Entry, Failed, Fcfs, Fell, IsTrue, Item, JustInTime, Kind, List, None, OfRun, Option, Placed, PlacedAt, Ran, Reading, Rose, Run, Scheduler, Setting, Some, Stand, Timeline, Undid, Visibility, [], ap, arith, before, common_steps, cond, cons_option, drop, entry, false, find, fold, gap_set, if◌then◌else◌, is_live, is_placed_later, is_ran, is_some, length, list_all, list_any, live_before, live_runs, nat_lt, not, nothing_read, option_map, placed_in_order, put, put_all, range_with_len, reading, refl, run_no, scheduler_of, shares, split_of, stamp_of, strict_wait, subst, sym, take, take_while-cons, true, unwrap_or, without, ℕ, ◌&&◌, ◌++◌, ◌+◌, ◌==◌, ◌||◌, ◌∙◌, ◌∷◌, ◌≡◌, ◌≢◌}
 use Rattle.home_types.specs.declared.modes.Visibility.TheVariants.{Eventual, Global, Partitioned, Weak}
-use Rattle.home_types.specs.declared.worlds.Stand.{Stand}
 use Rattle.hub_core.proofs.windows.StrongChoices.{placed_after}
-use Rattle.hub_core.specs.HubKept.{is_placed_later, placed_in_order}
 use Rattle.legal_days.specs.Isolation.{is_alone, is_placed_before}
-use Rattle.lock_leasing.specs.Waits.{strict_wait}
-use Rattle.lock_leasing.specs.Words.{live_before, live_runs, stamp_of}
-use Rattle.std.proofs.Common.{ap, arith, cond, refl, subst, sym, ◌∙◌}
-use Rattle.std.proofs.lemmas.Grind.{common_steps}
-use Rattle.std.proofs.lemmas.List.Sums.{take_while-cons}
-use Rattle.std.specs.List.{cons_option, list_all, list_any, range_with_len}
-use Rattle.std.specs.Prelude.{Bool, IsTrue, List, None, Option, Some, [], drop, false, find, fold, if◌then◌else◌, is_some, length, nat_lt, not, option_map, take, true, unwrap_or, ℕ, ◌&&◌, ◌++◌, ◌+◌, ◌==◌, ◌||◌, ◌∷◌, ◌≡◌, ◌≢◌}
 
 -- Stamps
 

@@ -1,57 +1,17 @@
 -- Each entry of a step that is no event, and each device that goes out, keeps the line and the table of a window.
-use Rattle.command_rules.specs.Items.{is_ran}
-use Rattle.command_rules.specs.Rosters.{command_at, device_no, is_run, run_no, touches_from}
+use Rattle.hub_core.proofs.Prelude.{Aborted, Answer, Arrived, Bool, Cause, ChangesEach, Command, Commands, Committed, Did, Doomed, Down, Ended, Entry, Grip, Grips, GripsFit, HistoryState, HoldsNone, IsClear, IsOrderOf, IsOut, IsRead, IsSealed, IsSome, IsToldDown, IsTrue, IsUnreleased, IsWellFormed, Item, Kept, LineageIsKept, LineageState, List, Mark, Marked, MarksAreKept, MayNote, None, OfRun, Option, OrderIsBeside, Placed, Point, Purpose, Ran, Reading, Setting, Some, TableFits, TableIsKept, TableIsOpened, TouchesNow, Undid, Undoes, [], aborted_table, along, along_on, and_parts, answered_change, answered_lineage, answered_run, answered_table, ap, arith, arrived_table, cause_fits, changes_one, command_at, command_held, command_out_table, committed_lineage, committed_table, common_steps, cond, count_by, count_cons, cut_live, device_no, did, doomed_each, doomed_lineage, doomed_table, drop, each_at, entries_of, entries_on, entry, eqb-true, false, front_for, front_of, gap_set, grips_command, held_none, if◌then◌else◌, in_order, is_access, is_command, is_done_there, is_doomed, is_first, is_ran, is_run, is_scheduled, is_some, is_told, is_weak, is_well_formed, items_of, joined_table, kept_by, left_after, length, length-append, length-map, line_for, lineage_at, marks_aborted, marks_answered, marks_arrived, marks_begin, marks_committed, marks_doomed, marks_out, marks_told, marks_undo_home, marks_undo_out, marks_undone, marks_without, may_act, may_follow, most_items, next_of, no_grips, none_left, not, not-true, noted_first, nothing_read, opened_table, option_map, out_is, pends, placed_change, planned_times, point, put, put_same, read_facts, read_in, reading, reading_more, refl, removed, run_no, run_positive, scheduled_on, scheduler_of, settling, stands_in, status_of, status_there, subst, suc, sym, take, take-append-drop, told_table, told_touches_now, told_write, touches_from, touches_now, touching, true, undid_table, undo_dropped_table, undo_out_table, undone, undone_change, untouched, unwrap_or, view_when, waits_there, with_doom, with_end, with_entry, with_item, with_lineage, with_touch, ℕ, ◌&&◌, ◌++◌, ◌+◌, ◌<◌, ◌==◌, ◌||◌, ◌∙◌, ◌∷◌, ◌≡◌, ◌≤◌}
 use Rattle.device_order.specs.LineWords.{CutAt}
 use Rattle.device_order.specs.Usages.{holds_command}
-use Rattle.history_book.proofs.Cited.{along_on, each_at, entries_on, put_same, reading_more, stands_in}
-use Rattle.history_book.specs.Gaps.{front_for, gap_set, line_for}
-use Rattle.history_book.specs.Histories.{entries_of, entry, kept_by, reading}
-use Rattle.history_book.specs.Plans.{planned_times}
-use Rattle.history_book.specs.ReadHistories.{HistoryState, read_in, with_doom, with_entry}
-use Rattle.history_book.specs.Readings.{OfRun, Reading, did, is_access, is_doomed, is_told, next_of, nothing_read, pends, put}
 use Rattle.history_book.specs.Sealed.{sealed_in}
-use Rattle.history_book.specs.Settings.{Setting, is_weak, scheduler_of}
-use Rattle.history_book.specs.WellFormed.{IsWellFormed, along, cause_fits, is_well_formed, may_act, may_follow}
-use Rattle.history_book.specs.declared.entries.Cause.{Cause}
-use Rattle.history_book.specs.declared.entries.End.TheVariants.{Aborted, Committed}
-use Rattle.history_book.specs.declared.entries.Entry.TheVariants.{Arrived, Did, Doomed, Ended, Placed, Undid}
-use Rattle.history_book.specs.declared.entries.Entry.{Entry}
-use Rattle.history_book.specs.declared.entries.Kept.{Kept}
-use Rattle.home_types.specs.declared.commands.Answer.TheVariants.{Down}
-use Rattle.home_types.specs.declared.commands.Answer.{Answer}
-use Rattle.home_types.specs.declared.commands.Command.{Command}
 use Rattle.home_types.specs.declared.commands.View.TheVariants.{Down as ViewedDown}
 use Rattle.home_types.specs.declared.commands.View.{View}
-use Rattle.home_types.specs.declared.items.Item.TheVariants.{Ran}
-use Rattle.home_types.specs.declared.items.Item.{Item}
 use Rattle.hub_core.proofs.kept.Arranged.{as_they_stand, long_arranged, marks_arranged, marks_for, marks_joined}
 use Rattle.hub_core.proofs.kept.SealedOrders.{placed_sealed, same_sealed, sealed_is, touched_sealed}
 use Rattle.hub_core.proofs.kept.Sizes.{one_at_most}
 use Rattle.hub_core.proofs.kept.TableFits.{committed_bare, doomed_bare, fits_changed, fits_ordered, fits_still, fits_weakly, removed_bare, undone_change_bare}
-use Rattle.hub_core.specs.Bounds.{most_items}
-use Rattle.hub_core.specs.OrderStates.{IsOrderOf, OrderIsBeside, TableFits}
-use Rattle.window_order.specs.OrderStates.{IsSealed, IsUnreleased, MayNote, is_first, noted_first}
-use Rattle.legal_days.proofs.Cited.{count_cons}
-use Rattle.lineage_table.specs.Accesses.{is_scheduled, status_of}
-use Rattle.lineage_table.specs.Lineages.{LineageState, TableIsOpened, committed_lineage, lineage_at, removed, undone, with_lineage}
 use Rattle.lineage_table.specs.declared.accesses.Status.TheVariants.{Acquired, Scheduled}
-use Rattle.lock_leasing.specs.Configurations.{Grip, Grips, Point, grips_command, is_command, no_grips, point}
-use Rattle.lock_leasing.specs.declared.purposes.Purpose.TheVariants.{Commands, Undoes}
-use Rattle.lock_leasing.specs.declared.purposes.Purpose.{Purpose}
-use Rattle.lock_leasing.specs.Places.{GripsFit, IsClear, in_order}
-use Rattle.lock_leasing.specs.Tables.{view_when}
 use Rattle.serial_line.specs.KeptRuns.{AreKeptOf}
-use Rattle.serial_line.specs.Marks.{Mark, Marked, front_of, items_of, marks_without, settling, touching, untouched, with_end, with_item, with_touch}
-use Rattle.std.proofs.Common.{ap, arith, cond, length-append, refl, subst, sym, ◌∙◌}
-use Rattle.std.proofs.lemmas.Bool.{and_parts, eqb-true, not-true}
-use Rattle.std.proofs.lemmas.Grind.{common_steps}
-use Rattle.std.proofs.lemmas.List.{length-map, take-append-drop}
-use Rattle.std.specs.Prelude.{Bool, IsSome, IsTrue, List, None, Option, Some, [], count_by, drop, false, if◌then◌else◌, is_some, length, not, option_map, suc, take, true, unwrap_or, ℕ, ◌&&◌, ◌++◌, ◌+◌, ◌<◌, ◌==◌, ◌||◌, ◌∷◌, ◌≡◌, ◌≤◌}
-use Rattle.window_order.proofs.Cited.{HoldsNone, IsOut, IsRead, IsToldDown, TouchesNow, aborted_table, answered_run, answered_table, arrived_table, changes_one, command_held, command_out_table, committed_table, cut_live, doomed_each, doomed_table, held_none, joined_table, left_after, marks_aborted, marks_answered, marks_arrived, marks_begin, marks_committed, marks_doomed, marks_out, marks_told, marks_undo_home, marks_undo_out, marks_undone, none_left, opened_table, out_is, read_facts, run_positive, status_there, told_table, told_touches_now, touches_now, undid_table, undo_dropped_table, undo_out_table, waits_there}
-use Rattle.window_order.specs.MarksKept.{MarksAreKept}
 use Rattle.window_order.specs.OrderKept.{OrderIsKept}
-use Rattle.window_order.specs.TableChanges.{ChangesEach, answered_change, answered_lineage, doomed_lineage, is_done_there, placed_change, scheduled_on, told_write, undone_change}
-use Rattle.window_order.specs.TableKept.{LineageIsKept, TableIsKept}
 
 -- One entry more
 

@@ -1,29 +1,8 @@
 -- Each probe that goes out or comes home, and each entry that it makes, keeps the line and the table of a window.
-use Rattle.command_rules.specs.Rosters.{device_no, run_no}
-use Rattle.history_book.specs.Histories.{entry}
-use Rattle.history_book.specs.Readings.{Reading, is_doomed, put}
-use Rattle.history_book.specs.Settings.{Setting}
-use Rattle.history_book.specs.declared.entries.Cause.{Cause}
-use Rattle.history_book.specs.declared.entries.Entry.TheVariants.{Doomed, Fell, Rose}
-use Rattle.home_types.specs.declared.items.Item.TheVariants.{Back, Failed}
-use Rattle.home_types.specs.declared.items.Item.{Item}
-use Rattle.home_types.specs.declared.numbers.DeviceNo.{DeviceNo}
+use Rattle.hub_core.proofs.Prelude.{Back, Bool, Cause, ChangesEach, DeviceNo, Doomed, Failed, Fell, Grips, GripsFit, HistoryState, IsOrderOf, IsRead, IsSealed, Item, LineageIsBare, LineageState, List, Mark, Marked, MarksAreKept, None, Option, OrderIsBeside, Probes, Reading, Rose, Setting, Some, ap, arith, changes_one, counted_up, device_no, doomed_unless, doomed_unless_table, entry, event_place_of, false, fell_table, grips_command, if◌then◌else◌, is_doomed, is_named_device, length, marks_doomed, marks_fell, marks_probe_home, marks_probe_out, marks_rose, point, probe_home_table, probe_out_table, put, read_in, refl, rose_table, run_no, subst, sym, true, turned_change, with_entry, with_item, with_lineage, ℕ, ◌+◌, ◌<◌, ◌==◌, ◌∙◌, ◌≡◌, ◌≤◌}
 use Rattle.hub_core.proofs.kept.OrderSteps.{entry_kept, length_with}
 use Rattle.hub_core.proofs.kept.TableFits.{fits_changed, fits_still, fits_turned, unless_bare}
-use Rattle.hub_core.specs.OrderStates.{IsOrderOf, LineageIsBare, OrderIsBeside}
-use Rattle.window_order.specs.OrderStates.{IsSealed}
-use Rattle.history_book.specs.ReadHistories.{HistoryState, read_in, with_entry}
-use Rattle.lineage_table.specs.Lineages.{LineageState, counted_up, with_lineage}
-use Rattle.lock_leasing.specs.Configurations.{Grips, grips_command, point}
-use Rattle.lock_leasing.specs.declared.purposes.Purpose.TheVariants.{Probes}
-use Rattle.lock_leasing.specs.Places.{GripsFit}
 use Rattle.serial_line.specs.KeptRuns.{AreKeptOf}
-use Rattle.serial_line.specs.Marks.{Mark, Marked, with_item}
-use Rattle.std.proofs.Common.{ap, arith, refl, subst, sym, ◌∙◌}
-use Rattle.std.specs.Prelude.{Bool, List, None, Option, Some, false, if◌then◌else◌, length, true, ℕ, ◌+◌, ◌<◌, ◌==◌, ◌≡◌, ◌≤◌}
-use Rattle.window_order.proofs.Cited.{IsRead, changes_one, doomed_unless_table, event_place_of, fell_table, marks_doomed, marks_fell, marks_probe_home, marks_probe_out, marks_rose, probe_home_table, probe_out_table, rose_table}
-use Rattle.window_order.specs.MarksKept.{MarksAreKept}
-use Rattle.window_order.specs.TableChanges.{ChangesEach, doomed_unless, is_named_device, turned_change}
 
 -- a probe goes out
 pub order_probe_out : {rounds : ℕ} (w : Setting) (n : Reading) (g f : Grips) (d : ℕ) (v : Option ℕ) (line : Marked) (table : List LineageState) → g d ≡ None

@@ -1,23 +1,9 @@
 -- What is kept of a hub's configuration stays so with each probe that goes out.
-use Rattle.command_rules.specs.Rosters.{is_run}
-use Rattle.history_book.proofs.Cited.{shapes}
-use Rattle.history_book.specs.Histories.{entries_of}
-use Rattle.history_book.specs.Readings.{Reading, is_live, put}
-use Rattle.history_book.specs.Settings.{Setting, is_device}
-use Rattle.home_types.specs.Kinds.{kind_at}
+use Rattle.hub_core.proofs.Prelude.{Bool, Configuration, ConfigurationIsKept, Grip, None, Probes, Reading, Setting, Some, after_take_probe, ap, arith, common_steps, entries_of, false, if◌then◌else◌, is_command, is_device, is_live, is_of_run, is_out, is_run, kind_at, may_probe, nat_lt, not, option_map, point, probe_goes_kept, probe_grip, probes_of, put, read_facts, read_of, refl, restored, shapes, standing_value, sym, true, undo_fits, unwrap_or, ℕ, ◌&&◌, ◌+◌, ◌-◌, ◌==◌, ◌≡◌, ◌≤◌}
 use Rattle.hub_core.proofs.kept.HistoryKept.{grip_turn}
 use Rattle.hub_core.proofs.kept.Kept.{out_with, values_fit}
 use Rattle.hub_core.proofs.kept.WrittenValues.{ValuesFit, standing_fits, writes_fit}
 use Rattle.hub_core.proofs.steps.Takes.{live_run}
-use Rattle.hub_core.specs.HubKept.{ConfigurationIsKept, is_of_run, probes_of, undo_fits}
-use Rattle.hub_core.specs.Steps.{after_take_probe, may_probe, probe_grip, restored}
-use Rattle.lock_leasing.specs.Configurations.{Configuration, Grip, is_command, is_out, point, read_of}
-use Rattle.lock_leasing.specs.declared.purposes.Purpose.TheVariants.{Probes}
-use Rattle.lock_leasing.specs.Words.{standing_value}
-use Rattle.std.proofs.Common.{ap, arith, refl, sym}
-use Rattle.std.proofs.lemmas.Grind.{common_steps}
-use Rattle.std.specs.Prelude.{Bool, None, Some, false, if◌then◌else◌, nat_lt, not, option_map, true, unwrap_or, ℕ, ◌&&◌, ◌+◌, ◌-◌, ◌==◌, ◌≡◌, ◌≤◌}
-use Rattle.window_order.proofs.Cited.{probe_goes_kept, read_facts}
 
 may_parts : (a b c : Bool) → (a && not b && c) ≡ true → (a ≡ true) × (b ≡ false) × (c ≡ true)
 may_parts a b c h = (grind (arith, common_steps), grind (arith, common_steps), grind (arith, common_steps))

@@ -1,21 +1,5 @@
 -- What is kept of a hub's configuration stays so with each device that comes home, from a run or from the detector.
-use Rattle.command_rules.specs.Rosters.{command_at, device_no, is_on, is_run, run_no}
-use Rattle.device_gate.specs.Calls.{answer_told}
-use Rattle.device_gate.specs.declared.slips.Told.TheVariants.{Died, Sensed, Worked}
-use Rattle.device_gate.specs.declared.slips.Told.{Told}
-use Rattle.history_book.proofs.Cited.{put_keeps, put_other, put_same, shapes}
-use Rattle.history_book.specs.Histories.{entries_of, entry, kept_by, moment_of}
-use Rattle.history_book.specs.Readings.{Reading, asks_on, did, has_written, is_doomed, is_live, next_command, next_of, put, sees_down}
-use Rattle.history_book.specs.Settings.{Setting, is_device, is_weak}
-use Rattle.history_book.specs.WellFormed.{along, may_follow, suits}
-use Rattle.history_book.specs.declared.entries.Cause.TheVariants.{Lost, MustDown, Refuted}
-use Rattle.history_book.specs.declared.entries.Cause.{Cause}
-use Rattle.history_book.specs.declared.entries.Entry.TheVariants.{Did, Doomed, Fell, Rose, Undid}
-use Rattle.history_book.specs.declared.entries.Entry.{Entry}
-use Rattle.home_types.specs.Commands.{driven, fails, holds, reads, refutes}
-use Rattle.home_types.specs.Kinds.{has_value, kind_at}
-use Rattle.home_types.specs.declared.commands.Answer.TheVariants.{Down, Fine, Found}
-use Rattle.home_types.specs.declared.commands.Command.{Command}
+use Rattle.hub_core.proofs.Prelude.{Bool, Cause, Command, Commands, Configuration, ConfigurationIsKept, Did, Died, Doomed, Down, Entry, Fell, Fine, Found, Grip, Grips, HistoryIsKept, IsRead, IsTrue, List, Lost, MayBeOut, MustDown, None, Option, Probes, Purpose, ReadIsOut, Reading, Refuted, Rose, Sensed, Setting, Some, Told, Undid, Undoes, Worked, [], abort_is_justified, after_give, along, and_parts, answer_told, ap, append-nil, append_assoc, ap₂, arith, asked_up, asks_on, both, both_ways, called_unseen, called_up, command_at, command_entries, common_steps, device_no, did, died_doomed_kept, died_kept, driven, entries_of, entry, fails, false, finds_clean, fold, found_kept, give_entries, has_effect, has_value, has_written, holds, if◌then◌else◌, is_device, is_doomed, is_live, is_of_run, is_on, is_probed, is_run, is_some, is_weak, keeps_leases, kept_by, kind_at, list_any, live_before, lost_by, may_follow, moment_of, next_command, next_of, no_grips, none_dirty, not, not-true, option_map, option_to_list, point, probe_died_doomed_kept, probe_died_kept, probe_entries, probe_missed_kept, probe_worked_kept, probes_of, put, put_keeps, put_other, put_same, read_facts, read_of, reads, refl, refuted_kept, refutes, restarted_kept, restored_down, run_no, run_positive, sees_down, shapes, shows, subst, suc, suits, sym, true, undo_died_kept, undo_fits, undo_up, undone_kept, unwrap_or, wrote_kept, ℕ, ⊤, ◌&&◌, ◌++◌, ◌+◌, ◌==◌, ◌||◌, ◌∙◌, ◌∷◌, ◌≡◌, ◌≢◌, ◌≤◌}
 use Rattle.hub_core.proofs.kept.EventsKept.{fell_may, rose_may}
 use Rattle.hub_core.proofs.kept.HistoryKept.{MayAdd, added, answer_may, doom_may, first_less, history_added, less_one, same_grips, serves_strict, turn_less, undo_may}
 use Rattle.hub_core.proofs.kept.Kept.{first_follows, history_same, kept_after, out_less, probes_home}
@@ -25,21 +9,6 @@ use Rattle.hub_core.proofs.steps.GiveCauses.{command_back_shows, probe_shows}
 use Rattle.hub_core.proofs.steps.Gives.{MayUndo, command_back_follows, probe_back_follows, undo_back_follows}
 use Rattle.hub_core.proofs.steps.Takes.{command_is, live_run}
 use Rattle.legal_days.specs.CleanReads.{answer_is_clean, clean_value, entry_is_clean}
-use Rattle.hub_core.specs.HubKept.{ConfigurationIsKept, HistoryIsKept, is_of_run, is_probed, keeps_leases, probes_of, undo_fits}
-use Rattle.legal_days.specs.JustifiedAborts.{abort_is_justified, shows}
-use Rattle.hub_core.specs.Steps.{after_give, command_entries, give_entries, probe_entries}
-use Rattle.lock_leasing.specs.Configurations.{Configuration, Grip, Grips, no_grips, point, read_of}
-use Rattle.lock_leasing.specs.declared.purposes.Purpose.TheVariants.{Commands, Probes, Undoes}
-use Rattle.lock_leasing.specs.declared.purposes.Purpose.{Purpose}
-use Rattle.lock_leasing.specs.Places.{MayBeOut}
-use Rattle.lock_leasing.specs.Waits.{lost_by}
-use Rattle.lock_leasing.specs.Words.{has_effect, live_before}
-use Rattle.std.proofs.Common.{ap, append-nil, append_assoc, ap₂, arith, refl, subst, sym, ◌∙◌}
-use Rattle.std.proofs.lemmas.Bool.{and_parts, both_ways, not-true}
-use Rattle.std.proofs.lemmas.Grind.{common_steps}
-use Rattle.std.specs.List.{list_any}
-use Rattle.std.specs.Prelude.{Bool, IsTrue, List, None, Option, Some, [], false, fold, if◌then◌else◌, is_some, not, option_map, option_to_list, suc, true, unwrap_or, ℕ, ⊤, ◌&&◌, ◌++◌, ◌+◌, ◌==◌, ◌||◌, ◌∷◌, ◌≡◌, ◌≢◌, ◌≤◌}
-use Rattle.window_order.proofs.Cited.{IsRead, ReadIsOut, asked_up, both, called_unseen, called_up, died_doomed_kept, died_kept, finds_clean, found_kept, none_dirty, probe_died_doomed_kept, probe_died_kept, probe_missed_kept, probe_worked_kept, read_facts, refuted_kept, restarted_kept, restored_down, run_positive, undo_died_kept, undo_up, undone_kept, wrote_kept}
 use Rattle.window_order.specs.OrderKept.{OrderIsKept}
 
 -- A device comes home

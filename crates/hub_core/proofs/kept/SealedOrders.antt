@@ -1,34 +1,11 @@
 -- What stands before the first live run of a window's line is sealed, and so it stays with each change of the line.
-use Rattle.command_rules.specs.Items.{of_run}
-use Rattle.command_rules.specs.Rosters.{run_no, touches}
+use Rattle.hub_core.proofs.Prelude.{Back, Bool, Failed, Grips, IsRead, IsSealed, Item, Kept, LineageState, List, Marked, MarksAreKept, OfRun, Option, Point, Ran, Reading, RunNo, Setting, TableFits, [], accesses_along, accesses_at, ap, arith, commits_write, common_steps, false, front_is, front_of, has_ended, if◌then◌else◌, is_live, is_none, is_some, is_weak, length, list_any, not, of_run, passed_by, refl, run_no, stands, stands_in, sym, take, touches, touching, true, untouched, uses, with_item, ℕ, ◌&&◌, ◌<◌, ◌||◌, ◌∙◌, ◌∷◌, ◌≡◌, ◌≤◌}
 use Rattle.failure_serialization.proofs.Cited.{event_unsealed, event_within}
 use Rattle.failure_serialization.specs.Events.{event_place}
-use Rattle.history_book.proofs.Cited.{stands_in}
-use Rattle.history_book.specs.Readings.{OfRun, Reading, is_live, passed_by}
 use Rattle.history_book.specs.Sealed.{sealed_in}
-use Rattle.history_book.specs.Settings.{Setting, is_weak}
-use Rattle.history_book.specs.declared.entries.Kept.{Kept}
-use Rattle.home_types.specs.declared.items.Item.TheVariants.{Back, Failed, Ran}
-use Rattle.home_types.specs.declared.items.Item.{Item}
-use Rattle.home_types.specs.declared.numbers.RunNo.{RunNo}
-use Rattle.hub_core.specs.OrderStates.{TableFits}
-use Rattle.window_order.specs.OrderStates.{IsSealed}
-use Rattle.lineage_table.specs.Lineages.{LineageState, accesses_at}
 use Rattle.lineage_table.specs.declared.accesses.Access.{Access}
-use Rattle.lock_leasing.proofs.Cited.{front_is}
-use Rattle.lock_leasing.specs.Configurations.{Grips, Point}
-use Rattle.lock_leasing.specs.Standings.{has_ended}
-use Rattle.lock_leasing.specs.Tables.{uses}
 use Rattle.serial_line.proofs.Cited.{front_inserted, front_placed, front_touching, front_within, live_unsealed}
 use Rattle.serial_line.specs.Labels.{is_sealed}
-use Rattle.serial_line.specs.Marks.{Marked, front_of, stands, touching, untouched, with_item}
-use Rattle.std.proofs.Common.{ap, arith, refl, sym, ◌∙◌}
-use Rattle.std.proofs.lemmas.Grind.{common_steps}
-use Rattle.std.specs.List.{list_any}
-use Rattle.std.specs.Prelude.{Bool, List, Option, [], false, if◌then◌else◌, is_none, is_some, length, not, take, true, ℕ, ◌&&◌, ◌<◌, ◌||◌, ◌∷◌, ◌≡◌, ◌≤◌}
-use Rattle.window_order.proofs.Cited.{IsRead}
-use Rattle.window_order.specs.MarksKept.{MarksAreKept}
-use Rattle.window_order.specs.TableKept.{accesses_along, commits_write}
 
 -- Changes that leave the first live run where it is
 

@@ -1,37 +1,6 @@
 -- How long a history and its line can grow.
-use Rattle.command_rules.specs.Items.{is_ran, of_run}
-use Rattle.command_rules.specs.Rosters.{Run, command_at, commands_of, is_on, is_run, touches}
-use Rattle.history_book.proofs.Cited.{Shaped, count_insert, count_put_before, did_touches, fell_is, put_keeps, put_other, put_same, shapes, size_is, split_count, stands_in}
-use Rattle.history_book.specs.Histories.{answered, entries_of, entry, reading}
-use Rattle.history_book.specs.Lines.{without}
-use Rattle.history_book.specs.Gaps.{split_of}
-use Rattle.history_book.specs.Readings.{OfRun, OnDevice, Reading, nothing_read, put, unread}
-use Rattle.history_book.specs.Settings.{Setting}
-use Rattle.history_book.specs.WellFormed.{IsWellFormed, along, may_follow}
-use Rattle.history_book.specs.declared.entries.End.TheVariants.{Aborted, Committed}
-use Rattle.history_book.specs.declared.entries.Entry.{Entry}
-use Rattle.history_book.specs.declared.entries.Entry.TheVariants.{Arrived, Did, Doomed, Ended, Fell, Placed, Rose, Undid}
-use Rattle.home_types.specs.HomeStates.{stand_at}
+use Rattle.hub_core.proofs.Prelude.{Aborted, Answer, Arrived, Back, Bool, Command, Committed, Configuration, DeviceNo, Did, Doomed, Ended, Entry, Failed, Fell, IsKeptByModel, IsRead, IsTrue, IsWellFormed, Item, List, None, OfRun, OnDevice, Option, Placed, Ran, Reading, Rose, Run, Setting, Shaped, Some, Undid, [], along, answered, ap, arith, command_at, commands_of, common_steps, cond, count_by, count_cons, count_insert, count_put_before, did_touches, entries_of, entry, eq-eqb, false, fell_is, fold, if◌then◌else◌, is_none, is_on, is_ran, is_run, is_some, kind_at, length, length-append, list_any, ltb-true, map, may_follow, most_entries, most_events, most_items, not, nothing_read, of_run, or_right, probes_of, put, put_keeps, put_other, put_same, read_facts, read_of, reading, refl, shapes, size_is, slice_get, slice_get_within, split_count, split_of, stand_at, stands_in, subst, suc, sym, told_falls, touches, true, unread, without, zero, ℕ, ◌*◌, ◌+◌, ◌<◌, ◌==◌, ◌||◌, ◌∙◌, ◌∷◌, ◌≡◌, ◌≢◌, ◌≤◌}
 use Rattle.home_types.specs.Limits.{most_commands}
-use Rattle.home_types.specs.Kinds.{kind_at}
-use Rattle.home_types.specs.declared.commands.Answer.{Answer}
-use Rattle.home_types.specs.declared.commands.Command.{Command}
-use Rattle.home_types.specs.declared.items.Item.TheVariants.{Back, Failed, Ran}
-use Rattle.home_types.specs.declared.items.Item.{Item}
-use Rattle.home_types.specs.declared.numbers.DeviceNo.{DeviceNo}
-use Rattle.legal_days.proofs.Cited.{count_cons}
-use Rattle.legal_days.specs.AccountedCalls.{told_falls}
-use Rattle.hub_core.specs.Bounds.{most_entries, most_events, most_items}
-use Rattle.hub_core.specs.HubKept.{probes_of}
-use Rattle.hub_core.specs.KeptByModel.{IsKeptByModel}
-use Rattle.lock_leasing.specs.Configurations.{Configuration, read_of}
-use Rattle.std.proofs.Common.{ap, arith, cond, length-append, refl, subst, sym, ◌∙◌}
-use Rattle.std.proofs.lemmas.Bool.{eq-eqb, ltb-true, or_right}
-use Rattle.std.proofs.lemmas.Grind.{common_steps}
-use Rattle.std.proofs.lemmas.Option.{slice_get_within}
-use Rattle.window_order.proofs.Cited.{IsRead, read_facts}
-use Rattle.std.specs.List.{list_any}
-use Rattle.std.specs.Prelude.{Bool, IsTrue, List, None, Option, Some, [], count_by, false, fold, if◌then◌else◌, is_none, is_some, length, map, not, slice_get, suc, true, zero, ℕ, ◌*◌, ◌+◌, ◌<◌, ◌==◌, ◌||◌, ◌∷◌, ◌≡◌, ◌≢◌, ◌≤◌}
 
 -- the sum of what is counted of the first so many, from 0
 pub sum_below : (ℕ → ℕ) → ℕ → ℕ

@@ -1,23 +1,7 @@
 -- A command that is skipped keeps the line and the table of a window.
-use Rattle.command_rules.specs.Rosters.{command_at, run_no, touches_from}
-use Rattle.history_book.specs.Histories.{entry}
-use Rattle.history_book.specs.Readings.{Reading, did, next_of}
-use Rattle.history_book.specs.Settings.{Setting, is_weak}
-use Rattle.history_book.specs.declared.entries.Entry.TheVariants.{Did}
-use Rattle.home_types.specs.declared.commands.Answer.TheVariants.{Skipped}
+use Rattle.hub_core.proofs.Prelude.{Bool, ChangesEach, Did, Grips, HistoryState, IsOrderOf, IsSkipped, IsUnreleased, LineageState, List, Marked, OrderIsBeside, Reading, Setting, Skipped, TableIsKept, ap, changes_one, command_at, did, entry, false, if◌then◌else◌, is_done_there, is_first, is_some, is_weak, left_by, length, lineage_at, marks_skipped, next_of, not, point, read_in, refl, released, removed, run_no, skipped_change, skipped_status, skipped_table, subst, sym, touches_from, true, with_entry, with_lineage, ℕ, ◌+◌, ◌<◌, ◌==◌, ◌||◌, ◌∙◌, ◌≡◌}
 use Rattle.hub_core.proofs.kept.OrderSteps.{entry_kept, stands_so}
 use Rattle.hub_core.proofs.kept.TableFits.{fits_ordered, fits_weakly}
-use Rattle.hub_core.specs.OrderStates.{IsOrderOf, OrderIsBeside}
-use Rattle.window_order.specs.OrderStates.{IsUnreleased, is_first, left_by}
-use Rattle.history_book.specs.ReadHistories.{HistoryState, read_in, with_entry}
-use Rattle.lineage_table.specs.Lineages.{LineageState, lineage_at, released, removed, with_lineage}
-use Rattle.lock_leasing.specs.Configurations.{Grips, point}
-use Rattle.serial_line.specs.Marks.{Marked}
-use Rattle.std.proofs.Common.{ap, refl, subst, sym, ◌∙◌}
-use Rattle.std.specs.Prelude.{Bool, List, false, if◌then◌else◌, is_some, length, not, true, ℕ, ◌+◌, ◌<◌, ◌==◌, ◌||◌, ◌≡◌}
-use Rattle.window_order.proofs.Cited.{IsSkipped, changes_one, marks_skipped, skipped_status, skipped_table}
-use Rattle.window_order.specs.TableChanges.{ChangesEach, is_done_there, skipped_change}
-use Rattle.window_order.specs.TableKept.{TableIsKept}
 
 -- the run has an access on the device, which it is not done with
 pub may_leave : (w : Setting) (n : Reading) (g : Grips) (held : ℕ → ℕ) (r : ℕ) (table : List LineageState) → IsSkipped w n g held r (command_at w.runs r (next_of n r)) → (command_at w.runs r (next_of n r)).device.0 < length w.first → TableIsKept (point w n g) table

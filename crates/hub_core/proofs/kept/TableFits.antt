@@ -1,17 +1,6 @@
 -- A table stays that of its window, by the model, with what each step makes of it.
-use Rattle.window_order.proofs.Cited.{IsRead}
-use Rattle.lineage_table.specs.Accesses.{has_access}
+use Rattle.hub_core.proofs.Prelude.{Bool, ChangesEach, DeviceNo, Grips, IsRead, LineageIsBare, LineageState, List, Option, Point, Reading, Setting, TableFits, TableIsKept, [], accesses_at, ap, committed_lineage, doomed_lineage, doomed_unless, false, has_access, if◌then◌else◌, is_named_device, is_weak, length, lineage_at, point, refl, removed, subst, sym, true, undone, undone_change, ℕ, ◌<◌, ◌==◌, ◌∙◌, ◌≡◌}
 use Rattle.hub_core.proofs.kept.EventsTold.{none_of_detector}
-use Rattle.history_book.specs.Readings.{Reading}
-use Rattle.history_book.specs.Settings.{Setting, is_weak}
-use Rattle.home_types.specs.declared.numbers.DeviceNo.{DeviceNo}
-use Rattle.hub_core.specs.OrderStates.{LineageIsBare, TableFits}
-use Rattle.lineage_table.specs.Lineages.{LineageState, accesses_at, committed_lineage, lineage_at, removed, undone}
-use Rattle.lock_leasing.specs.Configurations.{Grips, Point, point}
-use Rattle.std.proofs.Common.{ap, refl, subst, sym, ◌∙◌}
-use Rattle.std.specs.Prelude.{Bool, List, Option, [], false, if◌then◌else◌, length, true, ℕ, ◌<◌, ◌==◌, ◌≡◌}
-use Rattle.window_order.specs.TableChanges.{ChangesEach, doomed_lineage, doomed_unless, is_named_device, undone_change}
-use Rattle.window_order.specs.TableKept.{TableIsKept}
 
 -- Bare lineages
 

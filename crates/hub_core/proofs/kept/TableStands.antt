@@ -1,26 +1,7 @@
 -- The value that stands on a device by the lineage table is the standing value of the definition.
-use Rattle.command_rules.specs.Items.{of_run}
-use Rattle.command_rules.specs.Rosters.{run_no}
-use Rattle.history_book.specs.Readings.{Reading, is_committed, is_live}
-use Rattle.history_book.specs.Settings.{Setting, is_weak}
-use Rattle.home_types.specs.HomeStates.{stand_at}
-use Rattle.home_types.specs.declared.items.Item.TheVariants.{Back, Failed, Ran}
-use Rattle.home_types.specs.declared.items.Item.{Item}
-use Rattle.home_types.specs.declared.numbers.RunNo.{RunNo}
-use Rattle.lineage_table.specs.Accesses.{value_standing}
-use Rattle.lineage_table.specs.Lineages.{LineageState}
+use Rattle.hub_core.proofs.Prelude.{Back, Bool, EachTail, Facts, Failed, Grips, Item, LineageIsKept, LineageState, List, None, Option, Ran, Reading, RunNo, Setting, Some, Write, [], access_read, accesses_along, all_stay, and_parts, ap, both_ways, commits_write, committed_stays, committed_write, effective_write, eq-eqb, false, fold, if◌then◌else◌, is_committed, is_live, is_some, is_undone, is_weak, list_any, live_uncommitted, no_write, not, of_run, option_map, option_or, or_from, or_left, or_parts, or_right, point, refl, run_no, stand_at, standing_value, sym, three, true, unwrap_or, uses, value_standing, write_of, ℕ, ◌&&◌, ◌||◌, ◌∙◌, ◌∷◌, ◌≡◌}
 use Rattle.lineage_table.specs.declared.accesses.Access.{Access}
-use Rattle.lock_leasing.proofs.Cited.{EachTail, Facts, Stays, all_stay, committed_stays, live_uncommitted, no_write}
-use Rattle.lock_leasing.specs.Configurations.{Grips, point}
-use Rattle.lock_leasing.specs.Tables.{uses}
-use Rattle.lock_leasing.specs.Words.{Write, committed_write, effective_write, is_undone, standing_value, write_of}
-use Rattle.std.proofs.Common.{ap, refl, sym, ◌∙◌}
-use Rattle.std.proofs.lemmas.Bool.{and_parts, both_ways, eq-eqb, or_from, or_left, or_parts, or_right}
-use Rattle.std.specs.List.{list_any}
-use Rattle.std.specs.Option.{option_or}
-use Rattle.std.specs.Prelude.{Bool, List, None, Option, Some, [], false, fold, if◌then◌else◌, is_some, not, option_map, true, unwrap_or, ℕ, ◌&&◌, ◌||◌, ◌∷◌, ◌≡◌}
-use Rattle.window_order.proofs.Cited.{three}
-use Rattle.window_order.specs.TableKept.{LineageIsKept, access_read, accesses_along, commits_write}
+use Rattle.lock_leasing.proofs.Cited.{Stays}
 
 module _ (w : Setting) (n : Reading) (g : Grips) (f : Facts w n g) (d : ℕ) (passed : ℕ → Bool) where
   -- the value of a write, else the first one

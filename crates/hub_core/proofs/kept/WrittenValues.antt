@@ -1,33 +1,8 @@
 -- What runs write, and what an undo drives: values of their devices' kinds.
-use Rattle.command_rules.specs.Rosters.{command_at, commands_of, no_command, run_no}
-use Rattle.history_book.proofs.Cited.{map_some, put_all}
-use Rattle.history_book.specs.Histories.{answered, entry, reading}
-use Rattle.history_book.specs.Lines.{without}
-use Rattle.history_book.specs.Readings.{OfRun, OnDevice, Reading, nothing_read, put}
-use Rattle.history_book.specs.Settings.{Setting, is_device, is_weak}
-use Rattle.history_book.specs.WellFormed.{IsWellFormed, along, may_follow}
-use Rattle.history_book.specs.declared.entries.Entry.{Entry}
-use Rattle.history_book.specs.declared.entries.Entry.TheVariants.{Arrived, Did, Doomed, Ended, Fell, Placed, Rose, Undid}
-use Rattle.home_types.specs.Commands.{driven, writes}
-use Rattle.home_types.specs.HomeStates.{stand_at}
-use Rattle.home_types.specs.Kinds.{has_value, kind_at, nearest}
-use Rattle.home_types.specs.declared.commands.Answer.TheVariants.{Down, Fine, Found, Skipped}
-use Rattle.home_types.specs.declared.commands.Answer.{Answer}
-use Rattle.home_types.specs.declared.commands.Command.{Command}
+use Rattle.hub_core.proofs.Prelude.{Answer, Arrived, Back, Bool, Command, Did, Doomed, Down, Ended, Entry, Failed, Fell, Fine, Found, Grips, IsTrue, IsWellFormed, Item, Kind, List, None, OfRun, OnDevice, Option, Placed, Point, Ran, Reading, Rose, Setting, Skipped, Some, Undid, Write, [], along, answered, ap, arith, both, command_at, commands_of, common_steps, driven, entry, false, fold, has_value, if◌then◌else◌, is_device, is_some, is_undone, is_weak, kind_at, last_some, last_some_of, length, map_some, may_follow, names_values_of, nat_lt, nearest, no_command, nothing_read, option_map, put, put_all, reading, refl, run_no, slice_get, slice_index_or, stand_at, standing_value, subst, suc, sym, true, unwrap_or, value_without, without, write_of, writes, zero, ℕ, ◌&&◌, ◌∙◌, ◌∷◌, ◌≡◌}
 use Rattle.home_types.specs.declared.commands.Job.TheVariants.{Check, Load, Set, Store}
 use Rattle.home_types.specs.declared.commands.Job.{Job}
-use Rattle.home_types.specs.declared.items.Item.{Item}
-use Rattle.home_types.specs.declared.items.Item.TheVariants.{Back, Failed, Ran}
 use Rattle.home_types.specs.declared.kinds.Kind.TheVariants.{Range, States}
-use Rattle.home_types.specs.declared.kinds.Kind.{Kind}
-use Rattle.hub_core.specs.Openings.{names_values_of}
-use Rattle.lock_leasing.proofs.Cited.{last_some_of}
-use Rattle.lock_leasing.specs.Configurations.{Grips, Point}
-use Rattle.lock_leasing.specs.Words.{Write, is_undone, last_some, standing_value, value_without, write_of}
-use Rattle.std.proofs.Common.{ap, arith, refl, subst, sym, ◌∙◌}
-use Rattle.std.proofs.lemmas.Grind.{common_steps}
-use Rattle.std.specs.Prelude.{Bool, IsTrue, List, None, Option, Some, [], false, fold, if◌then◌else◌, is_some, length, nat_lt, option_map, slice_get, slice_index_or, suc, true, unwrap_or, zero, ℕ, ◌&&◌, ◌∷◌, ◌≡◌}
-use Rattle.window_order.proofs.Cited.{both}
 
 -- a kind that has some value has the nearest one to any
 pub nearest_has : (kind : Kind) (held v : ℕ) → IsTrue (has_value kind held) → IsTrue (has_value kind (nearest kind v))

@@ -1,14 +1,6 @@
 -- The reading after a step.
-use Rattle.history_book.proofs.Cited.{each_on, entries_on, reading_on}
-use Rattle.history_book.specs.Histories.{entries_of, entry, reading}
-use Rattle.history_book.specs.Readings.{Reading}
-use Rattle.history_book.specs.WellFormed.{along, each_entry}
-use Rattle.history_book.specs.declared.entries.Entry.{Entry}
+use Rattle.hub_core.proofs.Prelude.{Absent, Bool, Choice, Configuration, Entry, HandsOut, IsTrue, List, Moves, Over, Reading, Waits, after_choice, along, ap, append-nil, at_moment, each_entry, each_on, entries_of, entries_on, entry, fold, read_of, reading, reading_on, refl, sym, with_entries, ℕ, ◌∙◌, ◌≡◌}
 use Rattle.hub_core.proofs.steps.Takes.{made_by}
-use Rattle.hub_core.specs.Steps.{Absent, Choice, HandsOut, Moves, Over, Waits, after_choice, at_moment, with_entries}
-use Rattle.lock_leasing.specs.Configurations.{Configuration, read_of}
-use Rattle.std.proofs.Common.{ap, append-nil, refl, sym, ◌∙◌}
-use Rattle.std.specs.Prelude.{Bool, IsTrue, List, fold, ℕ, ◌≡◌}
 
 -- the entries of a step are read after what was read before
 pub read_with : (s : Configuration) (maker : ℕ) (entries : List Entry) → read_of (with_entries s maker entries) ≡ fold (entry s.setting) (read_of s) entries

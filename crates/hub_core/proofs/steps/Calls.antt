@@ -1,33 +1,10 @@
 -- The device calls and the failures that the entries of a step tell of.
-use Rattle.command_rules.specs.Rosters.{Run, command_at, device_no, run_no}
-use Rattle.device_gate.specs.Calls.{has_died}
-use Rattle.device_gate.specs.declared.slips.Told.TheVariants.{Died, Sensed, Worked}
-use Rattle.device_gate.specs.declared.slips.Told.{Told}
-use Rattle.history_book.proofs.Cited.{count_append, entries_on, put_keeps, put_other, put_same}
-use Rattle.history_book.specs.Histories.{entries_of, entry, is_fall_of, reading}
-use Rattle.history_book.specs.Readings.{OfRun, Reading, did, is_doomed, next_of, put}
-use Rattle.history_book.specs.Settings.{Setting, is_weak}
-use Rattle.history_book.specs.declared.entries.Cause.TheVariants.{Lost, MustDown, Refuted}
-use Rattle.history_book.specs.declared.entries.Entry.{Entry}
-use Rattle.history_book.specs.declared.entries.Entry.TheVariants.{Did, Doomed, Fell, Rose}
-use Rattle.home_types.specs.declared.commands.Answer.TheVariants.{Down, Found, Skipped}
-use Rattle.home_types.specs.Commands.{fails, register_after}
-use Rattle.home_types.specs.declared.commands.Command.{Command}
+use Rattle.hub_core.proofs.Prelude.{Bool, Choice, Command, Commands, Configuration, Did, Died, Doomed, Down, Entry, Fell, Found, Grip, Grips, List, Lost, Moves, MustDown, None, OfRun, Option, Probes, Purpose, Reading, Refuted, Rose, Run, Sensed, Setting, Skipped, Some, Told, Undoes, Worked, [], after_give, after_take, ap, arith, choice_of, command_at, common_steps, count_append, count_by, decide, device_no, did, down_entries, entries_of, entries_on, entry, fails, false, fold, give_entries, has_died, if◌then◌else◌, is_doomed, is_fall_of, is_none, is_of_run, is_weak, lost_by, max, next_of, not, option_map, option_to_list, point, probe_entries, put, put_keeps, put_other, put_same, read_of, reading, refl, register_after, run_no, tells_call, told_calls, told_falls, true, with_entries, ℕ, ⊤, ◌&&◌, ◌+◌, ◌==◌, ◌||◌, ◌∙◌, ◌∷◌, ◌≡◌, ◌≢◌}
 use Rattle.home_types.specs.declared.commands.Job.{Job}
 use Rattle.home_types.specs.declared.commands.Job.TheVariants.{Check, Load, Set, Store}
 use Rattle.hub_core.proofs.steps.Afters.{read_with, take_history}
 use Rattle.hub_core.proofs.steps.Choices.{decide_is}
 use Rattle.hub_core.proofs.steps.Takes.{made_by}
-use Rattle.legal_days.specs.AccountedCalls.{tells_call, told_calls, told_falls}
-use Rattle.hub_core.specs.HubKept.{is_of_run}
-use Rattle.hub_core.specs.Steps.{Choice, Moves, after_give, after_take, choice_of, decide, down_entries, give_entries, probe_entries, with_entries}
-use Rattle.lock_leasing.specs.Configurations.{Configuration, Grip, Grips, point, read_of}
-use Rattle.lock_leasing.specs.declared.purposes.Purpose.TheVariants.{Commands, Probes, Undoes}
-use Rattle.lock_leasing.specs.declared.purposes.Purpose.{Purpose}
-use Rattle.lock_leasing.specs.Waits.{lost_by}
-use Rattle.std.proofs.Common.{ap, arith, refl, ◌∙◌}
-use Rattle.std.proofs.lemmas.Grind.{common_steps}
-use Rattle.std.specs.Prelude.{Bool, List, None, Option, Some, [], count_by, false, fold, if◌then◌else◌, is_none, max, not, option_map, option_to_list, true, ℕ, ⊤, ◌&&◌, ◌+◌, ◌==◌, ◌||◌, ◌∷◌, ◌≡◌, ◌≢◌}
 
 -- the calls of a history with the entries of a step more
 pub calls_with : (s : Configuration) (maker : ℕ) (entries : List Entry) (d : ℕ) → told_calls s.setting.runs (entries_of (with_entries s maker entries).history) d ≡ told_calls s.setting.runs (entries_of s.history) d + told_calls s.setting.runs entries d

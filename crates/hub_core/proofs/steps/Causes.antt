@@ -1,32 +1,10 @@
 -- The answers of a run's step are clean, and its dooms show their causes.
-use Rattle.command_rules.specs.Rosters.{command_at, commands_of, device_no, run_no, shares, touches}
-use Rattle.history_book.proofs.Cited.{Each, each_filter, put_same}
-use Rattle.history_book.specs.Histories.{entry}
-use Rattle.history_book.specs.Plans.{free}
-use Rattle.history_book.specs.Readings.{Reading, did, next_command, next_of, same_answer, sees_down}
-use Rattle.history_book.specs.Settings.{Setting, device_numbers, devices_of, is_strict, is_weak}
-use Rattle.history_book.specs.WellFormed.{along}
-use Rattle.history_book.specs.declared.entries.Cause.TheVariants.{DownAtEnd, MustDown}
-use Rattle.history_book.specs.declared.entries.Entry.TheVariants.{Did, Doomed}
-use Rattle.home_types.specs.declared.commands.Answer.{Answer}
-use Rattle.home_types.specs.declared.commands.Answer.TheVariants.{Down, Fine, Found, Skipped}
-use Rattle.home_types.specs.declared.commands.Command.{Command}
-use Rattle.home_types.specs.declared.modes.Scheduler.{Scheduler}
-use Rattle.home_types.specs.declared.modes.Visibility.{Visibility}
+use Rattle.hub_core.proofs.Prelude.{Answer, Bool, Choice, Command, Did, Doomed, Down, DownAtEnd, Each, Fine, Found, Grip, Grips, IsTrue, List, Moves, MustDown, None, Option, Point, Reading, Scheduler, Setting, Skipped, Some, Visibility, [], abort_is_justified, along, answers_down, ap, arith, command_at, commands_of, common_steps, cond, decide, device_no, device_numbers, devices_of, did, down_at_end, down_entries, each_filter, entry, equals_some, false, find, free, grip_wait, grips_command, has_answer, has_grip, has_touched, if◌then◌else◌, is_command, is_none, is_strict, is_weak, length, live_before, next_command, next_of, no_grips, none_fails, not, option_map, point, put_same, refl, run_no, same_answer, sees_down, shares, slice_get, strict_wait, sym, touches, true, unwrap_or, weakly_allowed, ℕ, ◌&&◌, ◌++◌, ◌==◌, ◌||◌, ◌∙◌, ◌∷◌, ◌≡◌}
 use Rattle.home_types.specs.declared.modes.Visibility.TheVariants.{Eventual, Global, Partitioned, Weak}
 use Rattle.hub_core.proofs.steps.Choices.{decide_is}
 use Rattle.hub_core.proofs.steps.Revoked.{revocation_is_shown}
 use Rattle.hub_core.proofs.steps.Takes.{command_is, made_by}
 use Rattle.legal_days.specs.CleanReads.{answer_is_clean, entry_is_clean}
-use Rattle.legal_days.specs.JustifiedAborts.{abort_is_justified, equals_some, has_answer}
-use Rattle.legal_days.specs.LegalWindows.{none_fails, weakly_allowed}
-use Rattle.hub_core.specs.Steps.{Choice, Moves, answers_down, decide, down_entries}
-use Rattle.lock_leasing.specs.Configurations.{Grip, Grips, Point, grips_command, has_grip, is_command, no_grips, point}
-use Rattle.lock_leasing.specs.Waits.{down_at_end, grip_wait, strict_wait}
-use Rattle.lock_leasing.specs.Words.{has_touched, live_before}
-use Rattle.std.proofs.Common.{ap, arith, cond, refl, sym, ◌∙◌}
-use Rattle.std.proofs.lemmas.Grind.{common_steps}
-use Rattle.std.specs.Prelude.{Bool, IsTrue, List, None, Option, Some, [], false, find, if◌then◌else◌, is_none, length, not, option_map, slice_get, true, unwrap_or, ℕ, ◌&&◌, ◌++◌, ◌==◌, ◌||◌, ◌∷◌, ◌≡◌}
 
 -- Answers
 

@@ -1,29 +1,7 @@
 -- What holds of each thing that a run's step may do holds of the step.
-use Rattle.home_types.specs.Commands.{holds}
-use Rattle.command_rules.specs.Rosters.{device_no, is_run, run_no, touches}
-use Rattle.history_book.proofs.Cited.{each_found, own_devices, some_is}
-use Rattle.history_book.specs.Lines.{Split}
-use Rattle.history_book.specs.Plans.{free}
-use Rattle.history_book.specs.Readings.{PlacedAt, Reading, is_live, next_command, next_of}
-use Rattle.history_book.specs.Settings.{Setting, devices_of, is_device, is_weak}
-use Rattle.history_book.specs.declared.entries.Cause.{Cause}
-use Rattle.history_book.specs.declared.entries.Cause.TheVariants.{DownAtEnd, Revoked}
-use Rattle.history_book.specs.declared.entries.End.{End}
-use Rattle.history_book.specs.declared.entries.End.TheVariants.{Aborted, Committed}
-use Rattle.history_book.specs.declared.entries.Entry.TheVariants.{Arrived, Did, Doomed, Ended, Placed, Undid}
-use Rattle.home_types.specs.declared.commands.Command.{Command}
-use Rattle.home_types.specs.declared.commands.Answer.TheVariants.{Down, Skipped}
-use Rattle.hub_core.specs.Steps.{Absent, Choice, HandsOut, Moves, Over, Waits, aborts, answers_down, busy_case, choice_of, command_cases, decide, decide_answered, decide_arrived, decide_command, decide_doomed, down_case, down_entries, first_case, only_if, place_choice, skip_entries, strict_case, undo_cases, undo_choice}
+use Rattle.hub_core.proofs.Prelude.{Aborted, Absent, Arrived, At, Bool, Cause, Choice, Command, Commands, Committed, Configuration, DeniedBy, Did, Doomed, Down, DownAtEnd, End, Ended, Grips, HandsOut, Moves, None, Option, Over, Placed, PlacedAt, Placing, Point, Probes, Reading, Revoked, Setting, Skipped, Some, Split, Undid, Undoes, Waits, [], aborts, answers_down, behind_wait, busy_case, busy_wait, choice_of, command_cases, decide, decide_answered, decide_arrived, decide_command, decide_doomed, device_no, devices_of, dirty_wait, down_at_end, down_case, down_entries, each_found, false, first_case, follow_wait, free, grip_wait, has_effect, holds, if◌then◌else◌, is_device, is_live, is_none, is_out, is_run, is_some, is_weak, lease_deadline, length, max, next_command, next_of, next_undo_of, not, not-true, only_if, option_map, overdue_for, own_devices, place_choice, point, read_of, refl, run_no, scheduled_place, skip_entries, some_is, strict_case, strict_wait, subst, sym, touches, true, undo_cases, undo_choice, undo_wait, unwrap_or, value_without, ℕ, ⊤, ◌&&◌, ◌∙◌, ◌∷◌, ◌≡◌}
 use Rattle.hub_core.specs.declared.waits.Why.{Why}
 use Rattle.hub_core.specs.declared.waits.Why.TheVariants.{Behind, Busy, Denied, Dirty, Follow, Strict}
-use Rattle.lock_leasing.specs.Configurations.{Configuration, Grips, Point, is_out, point, read_of}
-use Rattle.lock_leasing.specs.declared.purposes.Purpose.TheVariants.{Commands, Probes, Undoes}
-use Rattle.lock_leasing.specs.Places.{At, DeniedBy, Placing, scheduled_place}
-use Rattle.lock_leasing.specs.Waits.{behind_wait, busy_wait, dirty_wait, down_at_end, follow_wait, grip_wait, strict_wait, undo_wait}
-use Rattle.lock_leasing.specs.Words.{has_effect, lease_deadline, next_undo_of, overdue_for, value_without}
-use Rattle.std.proofs.Common.{refl, subst, sym, ◌∙◌}
-use Rattle.std.proofs.lemmas.Bool.{not-true}
-use Rattle.std.specs.Prelude.{Bool, None, Option, Some, [], false, is_none, is_some, length, max, not, option_map, true, unwrap_or, if◌then◌else◌, ℕ, ⊤, ◌&&◌, ◌∷◌, ◌≡◌}
 
 -- A choice by cases
 

@@ -1,33 +1,9 @@
 -- The dooms of a step back show their causes.
-use Rattle.command_rules.specs.Rosters.{command_at, commands_of, device_no, is_on, run_no, touches_from}
-use Rattle.history_book.proofs.Cited.{Logged, put_same, some_is, span_more}
-use Rattle.history_book.specs.Histories.{entry, more_if}
-use Rattle.history_book.specs.Readings.{Event, First, Last, LogMark, Reading, did, is_access, is_doomed, is_fall, is_first_mark, is_last_mark, next_command, next_of, pends, sees_down, sees_up, span_of, view_of}
-use Rattle.history_book.specs.Settings.{Setting, is_weak}
-use Rattle.history_book.specs.WellFormed.{along}
-use Rattle.history_book.specs.declared.entries.Cause.TheVariants.{Lost, MustDown, Refuted}
-use Rattle.history_book.specs.declared.entries.Entry.{Entry}
-use Rattle.history_book.specs.declared.entries.Entry.TheVariants.{Did, Doomed, Fell, Rose}
-use Rattle.home_types.specs.Commands.{fails}
-use Rattle.home_types.specs.declared.commands.Answer.TheVariants.{Down, Found}
-use Rattle.home_types.specs.declared.commands.Command.{Command}
-use Rattle.home_types.specs.declared.items.Item.TheVariants.{Failed}
+use Rattle.hub_core.proofs.Prelude.{Bool, Command, Did, Died, Doomed, Down, Entry, Event, Failed, Fell, First, Found, IsTrue, Last, List, LogMark, Logged, Lost, MustDown, None, Option, Reading, Refuted, Rose, Sensed, Setting, Some, Told, Worked, [], abort_is_justified, along, ap, append-nil, append_assoc, arith, command_at, command_entries, commands_of, common_steps, device_no, did, drop, entry, fails, false, if◌then◌else◌, is_access, is_doomed, is_fall, is_first_mark, is_last_mark, is_none, is_on, is_some, is_weak, list_any, lost_by, more_if, next_command, next_of, not, option_map, option_or, option_to_list, or-true, pends, probe_entries, put_same, refl, run_no, sees_down, sees_up, shows, slice_get, some_is, span_more, span_of, suc, sym, take_while, take_while-cons, touches_from, true, unwrap_or, view_of, zero, ℕ, ◌&&◌, ◌++◌, ◌+◌, ◌∙◌, ◌∷◌, ◌≡◌}
 use Rattle.hub_core.proofs.steps.Causes.{and_is, answered_last}
 use Rattle.hub_core.proofs.steps.Gives.{lost_is}
 use Rattle.hub_core.proofs.steps.Takes.{command_is}
-use Rattle.legal_days.specs.JustifiedAborts.{abort_is_justified, shows}
-use Rattle.hub_core.specs.Steps.{command_entries, probe_entries}
-use Rattle.device_gate.specs.declared.slips.Told.{Told}
-use Rattle.device_gate.specs.declared.slips.Told.TheVariants.{Died, Sensed, Worked}
-use Rattle.lock_leasing.specs.Waits.{lost_by}
-use Rattle.std.proofs.Common.{ap, append-nil, append_assoc, arith, refl, sym, ◌∙◌}
-use Rattle.std.proofs.Math.Bool.{or-true}
-use Rattle.std.proofs.lemmas.Grind.{common_steps}
 use Rattle.std.proofs.lemmas.List.Folds.{list_any-append}
-use Rattle.std.proofs.lemmas.List.Sums.{take_while-cons}
-use Rattle.std.specs.List.{list_any}
-use Rattle.std.specs.Option.{option_or}
-use Rattle.std.specs.Prelude.{Bool, IsTrue, List, None, Option, Some, [], drop, false, if◌then◌else◌, is_none, is_some, not, option_map, option_to_list, slice_get, suc, take_while, true, unwrap_or, zero, ℕ, ◌&&◌, ◌++◌, ◌+◌, ◌∷◌, ◌≡◌}
 
 abbrev pub ShowsAll : Setting → Reading → List Entry → Type 0
 ShowsAll w n entries = IsTrue (along w (abort_is_justified w) n entries)

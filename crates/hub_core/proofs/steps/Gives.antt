@@ -1,30 +1,6 @@
 -- The entries of a step back may follow what was read.
-use Rattle.command_rules.specs.Rosters.{command_at, device_no, is_run, run_no}
-use Rattle.history_book.proofs.Cited.{Shaped, did_live, each_found, put_keeps}
-use Rattle.history_book.specs.Histories.{entry}
-use Rattle.history_book.specs.Readings.{Reading, did, has_written, is_access, is_doomed, is_live, is_open, next_command, next_of, sees_up}
-use Rattle.history_book.specs.Settings.{Setting, is_device, is_weak}
-use Rattle.history_book.specs.WellFormed.{along, cause_fits, may_follow, suits}
-use Rattle.history_book.specs.declared.entries.Cause.{Cause}
-use Rattle.history_book.specs.declared.entries.Cause.TheVariants.{Lost, MustDown, Refuted}
-use Rattle.history_book.specs.declared.entries.Entry.{Entry}
-use Rattle.history_book.specs.declared.entries.Entry.TheVariants.{Did, Doomed, Fell, Rose, Undid}
-use Rattle.home_types.specs.Commands.{fails}
-use Rattle.home_types.specs.declared.commands.Answer.{Answer}
-use Rattle.home_types.specs.declared.commands.Answer.TheVariants.{Down, Fine, Found}
-use Rattle.home_types.specs.declared.commands.Command.{Command}
-use Rattle.home_types.specs.declared.numbers.DeviceNo.{DeviceNo}
+use Rattle.hub_core.proofs.Prelude.{Answer, Bool, Cause, Command, DeviceNo, Did, Died, Doomed, Down, Entry, Fell, Fine, Found, IsTrue, List, Lost, MustDown, None, Option, Reading, Refuted, Rose, Sensed, Setting, Shaped, Some, Told, Undid, Worked, [], along, answer_told, arith, cause_fits, command_at, command_entries, common_steps, device_no, did, did_live, each_found, entry, fails, false, find, has_written, if◌then◌else◌, is_access, is_device, is_doomed, is_live, is_open, is_run, is_some, is_weak, live_runs, live_runs_live, lost_by, may_follow, next_command, next_of, not, option_map, option_to_list, probe_entries, put_keeps, refl, run_no, sees_up, subst, suits, sym, true, undo_entries, ℕ, ◌&&◌, ◌∙◌, ◌∷◌, ◌≡◌}
 use Rattle.hub_core.proofs.steps.Takes.{command_is, did_follows, live_run, within}
-use Rattle.hub_core.specs.Steps.{command_entries, probe_entries, undo_entries}
-use Rattle.device_gate.specs.Calls.{answer_told}
-use Rattle.device_gate.specs.declared.slips.Told.{Told}
-use Rattle.device_gate.specs.declared.slips.Told.TheVariants.{Died, Sensed, Worked}
-use Rattle.lock_leasing.proofs.Cited.{live_runs_live}
-use Rattle.lock_leasing.specs.Waits.{lost_by}
-use Rattle.lock_leasing.specs.Words.{live_runs}
-use Rattle.std.proofs.Common.{arith, refl, subst, sym, ◌∙◌}
-use Rattle.std.proofs.lemmas.Grind.{common_steps}
-use Rattle.std.specs.Prelude.{Bool, IsTrue, List, None, Option, Some, [], false, find, if◌then◌else◌, is_some, not, option_map, option_to_list, true, ℕ, ◌&&◌, ◌∷◌, ◌≡◌}
 
 -- what is known of a run whose command comes back: it is its next one, and the device was counted up
 pub record MayAnswer (w : Setting) (n : Reading) (r : ℕ) (c : Command) (told : Told) : Type 0 where

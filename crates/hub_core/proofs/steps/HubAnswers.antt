@@ -1,16 +1,7 @@
 -- What a hub answers to a run that takes, to a grip that comes back, and to the detector.
-use Rattle.device_gate.specs.declared.slips.Slip.{Slip}
-use Rattle.device_gate.specs.declared.slips.Task.{Task}
+use Rattle.hub_core.proofs.Prelude.{Bool, Carried, Choice, Chose, Configuration, Entry, Gave, Give, GiveProbe, Grip, HubState, HubStep, IsSlipOf, List, None, Option, ProbeTaken, Probed, Refused, Returned, Slip, Some, Take, TakeProbe, Task, Told, after_give, after_take, after_take_probe, ap, arith, at_moment, carrying, choice_of, common_steps, entries_back, false, give_entries, give_if, if◌then◌else◌, is_kept, may_probe, nat_lt, probe_grip, read_of, refl, same_carried, same_optional, same_slip, same_task, task_of, true, ℕ, ◌&&◌, ◌<◌, ◌==◌, ◌∙◌, ◌≡◌}
 use Rattle.device_gate.specs.declared.slips.Task.TheVariants.{Drive, Probe, Sense}
-use Rattle.device_gate.specs.declared.slips.Told.{Told}
 use Rattle.device_gate.specs.declared.strangers.Stranger.{Stranger}
-use Rattle.history_book.specs.declared.entries.Entry.{Entry}
-use Rattle.hub_core.specs.HubSteps.{Carried, Chose, Gave, HubState, HubStep, IsSlipOf, ProbeTaken, Probed, Refused, Returned, Take, TakeProbe, Give, GiveProbe, carrying, entries_back, give_if, is_kept, same_carried, same_optional, same_slip, same_task, task_of}
-use Rattle.hub_core.specs.Steps.{Choice, after_give, after_take, after_take_probe, at_moment, choice_of, give_entries, may_probe, probe_grip}
-use Rattle.lock_leasing.specs.Configurations.{Configuration, Grip, read_of}
-use Rattle.std.proofs.Common.{ap, arith, refl, ◌∙◌}
-use Rattle.std.proofs.lemmas.Grind.{common_steps}
-use Rattle.std.specs.Prelude.{Bool, List, None, Option, Some, false, if◌then◌else◌, nat_lt, true, ℕ, ◌&&◌, ◌<◌, ◌==◌, ◌≡◌}
 
 -- a step of a run is the choice, and the configuration after it
 pub took_choice : (s t : HubState) (r m : ℕ) (slip : Slip) (choice : Choice) → HubStep s (Take r m slip) (Chose choice) t → choice ≡ choice_of s.configuration r m

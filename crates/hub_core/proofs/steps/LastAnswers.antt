@@ -1,14 +1,6 @@
 -- A run that has just answered its next command, and whether it is done with the device of that command.
-use Rattle.command_rules.specs.Rosters.{command_at, commands_of, is_run, run_no}
-use Rattle.history_book.proofs.Cited.{entries_on, put_same, reading_more}
-use Rattle.history_book.specs.Histories.{entries_of, reading}
-use Rattle.history_book.specs.Readings.{OfRun, Reading, next_of}
-use Rattle.history_book.specs.declared.entries.Entry.TheVariants.{Did}
-use Rattle.home_types.specs.declared.commands.Answer.{Answer}
-use Rattle.history_book.specs.ReadHistories.{HistoryState, read_in, with_entry}
-use Rattle.std.proofs.Common.{ap, subst, sym, ◌∙◌}
+use Rattle.hub_core.proofs.Prelude.{Answer, Did, HistoryState, IsTrue, OfRun, Reading, [], ap, command_at, commands_of, entries_of, entries_on, is_run, length, next_of, put_same, read_in, reading, reading_more, run_no, subst, sym, true, with_entry, ℕ, ◌+◌, ◌<◌, ◌∙◌, ◌∷◌, ◌≡◌}
 use Rattle.std.proofs.lemmas.List.{length-append}
-use Rattle.std.specs.Prelude.{IsTrue, [], length, true, ℕ, ◌+◌, ◌<◌, ◌∷◌, ◌≡◌}
 
 -- the answer is counted
 next_behind : (s : HistoryState) (maker r k : ℕ) (a : Answer) → next_of (read_in (with_entry s maker (Did (run_no r) k a))) r ≡ next_of (read_in s) r + 1

@@ -1,17 +1,5 @@
 -- A revocation that a step makes is justified by the history, whatever grips are out.
-use Rattle.command_rules.specs.Rosters.{run_no, touches}
-use Rattle.history_book.specs.Readings.{Reading, is_doomed, is_live, next_command, pends}
-use Rattle.history_book.specs.Settings.{Setting}
-use Rattle.history_book.specs.declared.entries.Cause.TheVariants.{Revoked}
-use Rattle.home_types.specs.Commands.{holds}
-use Rattle.home_types.specs.declared.commands.Command.{Command}
-use Rattle.window_devices.proofs.Cited.{find_same}
-use Rattle.legal_days.specs.JustifiedAborts.{shows}
-use Rattle.lock_leasing.specs.Configurations.{Grips, Point, no_grips, point}
-use Rattle.lock_leasing.specs.Words.{has_effect, is_overdue, lease_deadline, live_before, overdue_for, stamp_of}
-use Rattle.std.proofs.Common.{arith, refl, sym, ◌∙◌}
-use Rattle.std.proofs.lemmas.Grind.{common_steps}
-use Rattle.std.specs.Prelude.{Some, false, if◌then◌else◌, nat_lt, not, true, ℕ, ◌&&◌, ◌≡◌}
+use Rattle.hub_core.proofs.Prelude.{Command, Grips, Point, Reading, Revoked, Setting, Some, arith, common_steps, false, find_same, has_effect, holds, if◌then◌else◌, is_doomed, is_live, is_overdue, lease_deadline, live_before, nat_lt, next_command, no_grips, not, overdue_for, pends, point, refl, run_no, shows, stamp_of, sym, touches, true, ℕ, ◌&&◌, ◌∙◌, ◌≡◌}
 
 overdue_any_grips : (w : Setting) (n : Reading) (g g' : Grips) (r d m x : ℕ) → is_overdue (point w n g) r d m x ≡ is_overdue (point w n g') r d m x
 overdue_any_grips w n g g' r d m x = elim (is_doomed n x) as (λ b.

@@ -1,29 +1,6 @@
 -- The entries of a run's step may follow what was read.
-use Rattle.command_rules.specs.Rosters.{command_at, commands_of, device_no, is_run, no_command, run_no, touches}
-use Rattle.history_book.proofs.Cited.{Shaped, did_live, each_found, own_devices, put_keeps, some_is}
-use Rattle.history_book.specs.Histories.{entry}
-use Rattle.history_book.specs.Lines.{Split, before}
-use Rattle.history_book.specs.Readings.{Reading, is_doomed, is_live, next_command, next_of}
-use Rattle.history_book.specs.Settings.{Setting, devices_of, is_device, is_strict}
-use Rattle.history_book.specs.WellFormed.{along, may_follow, same_cause, suits}
-use Rattle.history_book.specs.declared.entries.Cause.{Cause}
-use Rattle.history_book.specs.declared.entries.Cause.TheVariants.{DownAtEnd, Lost, MustDown, Refuted, Revoked}
-use Rattle.history_book.specs.declared.entries.End.TheVariants.{Committed}
-use Rattle.history_book.specs.declared.entries.Entry.{Entry}
-use Rattle.history_book.specs.declared.entries.Entry.TheVariants.{Did, Doomed, Ended, Placed, Undid}
-use Rattle.home_types.specs.declared.commands.Answer.TheVariants.{Down, Skipped}
-use Rattle.home_types.specs.declared.commands.Answer.{Answer}
-use Rattle.home_types.specs.declared.commands.Command.{Command}
+use Rattle.hub_core.proofs.Prelude.{Absent, Answer, Bool, Cause, Choice, Command, Committed, Did, Doomed, Down, DownAtEnd, Ended, Entry, Grips, HandsOut, IsTrue, List, Lost, Moves, MustDown, None, Option, Over, Placed, Reading, Refuted, Revoked, Setting, Shaped, Skipped, Some, Split, Undid, Waits, [], aborts, along, ap, arith, before, command_at, commands_of, common_steps, decide, device_no, devices_of, did_live, down_at_end, down_entries, each_found, effect_is, entry, false, find, has_touched, if◌then◌else◌, is_device, is_doomed, is_live, is_none, is_overdue, is_run, is_some, is_strict, lease_deadline, length, live_before, live_runs_live, may_follow, nat_le, nat_lt, next_command, next_of, no_command, not, overdue_for, own_devices, point, put_keeps, refl, run_no, same_cause, skip_entries, slice_get, slice_get_within, slice_index_or, some_is, suc, suits, touches, true, zero, ℕ, ◌&&◌, ◌<◌, ◌==◌, ◌∙◌, ◌∷◌, ◌≡◌, ◌≤◌}
 use Rattle.hub_core.proofs.steps.Choices.{Acts, Answered, Commanding, Enters, Skipping, Undoing, decide_is}
-use Rattle.hub_core.specs.Steps.{Absent, Choice, HandsOut, Moves, Over, Waits, aborts, decide, down_entries, skip_entries}
-use Rattle.lock_leasing.proofs.Cited.{effect_is, live_runs_live}
-use Rattle.lock_leasing.specs.Configurations.{Grips, point}
-use Rattle.lock_leasing.specs.Waits.{down_at_end}
-use Rattle.lock_leasing.specs.Words.{has_touched, is_overdue, lease_deadline, live_before, overdue_for}
-use Rattle.std.proofs.Common.{ap, arith, refl, ◌∙◌}
-use Rattle.std.proofs.lemmas.Grind.{common_steps}
-use Rattle.std.proofs.lemmas.Option.{slice_get_within}
-use Rattle.std.specs.Prelude.{Bool, IsTrue, List, None, Option, Some, [], false, find, if◌then◌else◌, is_none, is_some, length, nat_le, nat_lt, not, slice_get, slice_index_or, suc, true, zero, ℕ, ◌&&◌, ◌<◌, ◌==◌, ◌∷◌, ◌≡◌, ◌≤◌}
 
 -- the entries that a choice makes
 abbrev pub made_by : Choice → List Entry

@@ -1,24 +1,8 @@
 -- Runs at a command: what is known of them, and their step.
-use Rattle.command_rules.specs.Rosters.{is_on}
-use Rattle.history_book.proofs.Cited.{Shaped, map_some, none_is, shapes}
-use Rattle.history_book.specs.Histories.{entries_of}
-use Rattle.history_book.specs.Readings.{OfRun, PlacedAt, Reading, asks_on, is_live, is_open, next_command, next_of}
-use Rattle.history_book.specs.Settings.{Setting}
-use Rattle.history_book.specs.WellFormed.{IsWellFormed}
-use Rattle.home_types.specs.Commands.{holds}
-use Rattle.home_types.specs.declared.commands.Command.{Command}
-use Rattle.window_devices.proofs.Cited.{not_none}
+use Rattle.hub_core.proofs.Prelude.{Bool, Command, Configuration, IsWellFormed, None, OfRun, Option, PlacedAt, Point, Reading, Setting, Shaped, Some, ap, arith, asks_on, choice_of, common_steps, decide, decide_command, entries_of, eq-eqb, false, grip_wait, holds, if◌then◌else◌, is_at_command, is_live, is_none, is_on, is_open, is_some, map_some, max, next_command, next_device, next_of, none_is, not, not_none, option_map, point_of, read_of, refl, shapes, subst, sym, true, unwrap_or, ℕ, ◌&&◌, ◌∙◌, ◌≡◌}
 use Rattle.hub_core.proofs.steps.Choices.{Acts}
 use Rattle.hub_core.proofs.steps.GiveCauses.{next_pends}
 use Rattle.hub_core.proofs.steps.Takes.{live_run}
-use Rattle.hub_core.specs.BlockedRuns.{is_at_command, next_device}
-use Rattle.hub_core.specs.Steps.{choice_of, decide, decide_command}
-use Rattle.lock_leasing.specs.Configurations.{Configuration, Point, point_of, read_of}
-use Rattle.lock_leasing.specs.Waits.{grip_wait}
-use Rattle.std.proofs.Common.{ap, arith, refl, subst, sym, ◌∙◌}
-use Rattle.std.proofs.lemmas.Bool.{eq-eqb}
-use Rattle.std.proofs.lemmas.Grind.{common_steps}
-use Rattle.std.specs.Prelude.{Bool, None, Option, Some, false, if◌then◌else◌, is_none, is_some, max, not, option_map, true, unwrap_or, ℕ, ◌&&◌, ◌≡◌}
 
 -- the run is at the command c, with the number next_of, which is on the device
 pub record IsAt (p : Point) (r d : ℕ) : Type 0 where

@@ -1,22 +1,6 @@
 -- The runs that are marked as blocked stay so in each step of a hub, but for those that the step may have freed.
-use Rattle.command_rules.specs.Rosters.{commands_of, device_no, is_on, is_run, run_no}
-use Rattle.history_book.proofs.Cited.{entries_on, put_other, put_same, run_place}
-use Rattle.history_book.specs.Histories.{entries_of, entry, kept_by}
-use Rattle.history_book.specs.Readings.{OfRun, Reading, asks_on, did, is_access, is_doomed, is_live, pends, put}
-use Rattle.history_book.specs.Settings.{Setting}
-use Rattle.history_book.specs.WellFormed.{IsWellFormed}
-use Rattle.history_book.specs.declared.entries.Cause.TheVariants.{Lost}
-use Rattle.history_book.specs.declared.entries.Entry.{Entry}
-use Rattle.history_book.specs.declared.entries.Entry.TheVariants.{Did, Doomed, Fell, Rose}
-use Rattle.home_types.specs.Commands.{holds}
-use Rattle.home_types.specs.declared.commands.Answer.TheVariants.{Fine, Found}
-use Rattle.home_types.specs.declared.commands.Answer.{Answer}
-use Rattle.home_types.specs.declared.commands.Command.{Command}
-use Rattle.home_types.specs.declared.numbers.RunNo.{RunNo}
-use Rattle.device_gate.specs.declared.slips.Told.{Told}
-use Rattle.device_gate.specs.declared.slips.Told.TheVariants.{Died, Sensed, Worked}
+use Rattle.hub_core.proofs.Prelude.{Absent, Answer, Bool, Choice, Command, Commands, Configuration, ConfigurationIsKept, Did, Died, Doomed, EndNoWait, Entry, Fell, Fine, Found, Grip, Grips, HandsOut, IsBlocked, IsOf, IsWellFormed, List, Lost, Moves, NeverRevokes, None, OfRun, Option, Over, Probes, Purpose, Reading, Rose, RunNo, Sensed, Setting, Some, Told, Undoes, Waits, Worked, [], ap, arith, asks_on, at_moment, both_ways, choice_of, commands_of, common_steps, decide, device_no, did, entries_of, entries_on, entry, eqb-false, eqb-true, false, find_same, give_entries, grip_wait, grips_command, has_grip, holds, holds_none, if◌then◌else◌, inl, inr, is_access, is_command, is_doomed, is_live, is_on, is_quiet, is_run, is_some, is_wait, kept_by, length, list_all, lost_by, max, next_device, option_map, option_to_list, others_hold, own_command, pends, point, point_of, put, put_other, put_same, read_of, refl, run_no, run_place, slice_get, strict_wait, subst, sym, true, unwrap_or, with_entries, with_grip, ℕ, ⊤, ◌&&◌, ◌++◌, ◌==◌, ◌||◌, ◌∙◌, ◌∷◌, ◌≡◌, ◌≢◌, ◌≤◌, ◌⊎◌}
 use Rattle.blocked_runs.proofs.Cited.{all_left}
-use Rattle.window_devices.proofs.Cited.{IsOf, find_same, others_hold}
 use Rattle.hub_core.proofs.steps.Choices.{decide_is}
 use Rattle.hub_core.proofs.steps.GiveCauses.{next_pends}
 use Rattle.hub_core.proofs.waiting.AtCommands.{at_command}
@@ -27,23 +11,10 @@ use Rattle.hub_core.proofs.waiting.OtherDevices.{stays_blocked}
 use Rattle.hub_core.proofs.waiting.QuietEntries.{strict_by}
 use Rattle.hub_core.specs.BlockedMarks.{AreBlocked, Marks, MayBeMarked, Stays}
 use Rattle.blocked_runs.specs.Marks.{AreLeft, BlockedState, is_marked, is_marked_at}
-use Rattle.hub_core.specs.BlockedRuns.{EndNoWait, IsBlocked, NeverRevokes, is_quiet, is_wait, next_device}
-use Rattle.hub_core.specs.HubKept.{ConfigurationIsKept}
 use Rattle.hub_core.specs.MarkedRuns.{IsAnsweredStill, is_out_for_command}
-use Rattle.hub_core.specs.Steps.{Absent, Choice, HandsOut, Moves, Over, Waits, at_moment, choice_of, decide, give_entries, with_entries, with_grip}
 use Rattle.hub_core.specs.declared.waits.Why.{Why}
-use Rattle.lock_leasing.specs.Configurations.{Configuration, Grip, Grips, grips_command, has_grip, is_command, point, point_of, read_of}
 use Rattle.lock_leasing.specs.Leases.{NeverOverdue}
-use Rattle.lock_leasing.specs.Waits.{grip_wait, lost_by, strict_wait}
-use Rattle.std.proofs.Common.{ap, arith, inl, inr, refl, subst, sym, ◌∙◌}
-use Rattle.std.proofs.lemmas.Bool.{both_ways, eqb-false, eqb-true}
-use Rattle.std.proofs.lemmas.Grind.{common_steps}
 use Rattle.std.proofs.lemmas.List.{append-nil}
-use Rattle.std.specs.List.{list_all}
-use Rattle.std.specs.Prelude.{Bool, List, None, Option, Some, [], false, if◌then◌else◌, is_some, length, max, option_map, option_to_list, slice_get, true, unwrap_or, ℕ, ⊤, ◌&&◌, ◌++◌, ◌==◌, ◌||◌, ◌∷◌, ◌≡◌, ◌≢◌, ◌≤◌, ◌⊎◌}
-use Rattle.window_order.proofs.Cited.{holds_none, own_command}
-use Rattle.lock_leasing.specs.declared.purposes.Purpose.TheVariants.{Commands, Probes, Undoes}
-use Rattle.lock_leasing.specs.declared.purposes.Purpose.{Purpose}
 
 -- What lasts
 

@@ -1,26 +1,6 @@
 -- A run that follows one that has not ended waits, until that one ends.
-use Rattle.command_rules.specs.Rosters.{followed_by, is_run}
-use Rattle.history_book.proofs.Cited.{along_on, reading_on}
-use Rattle.history_book.specs.Histories.{entries_of, entry, reading}
-use Rattle.history_book.specs.Readings.{OfRun, PlacedAt, Reading, nothing_read, put}
-use Rattle.history_book.specs.Settings.{Setting}
-use Rattle.history_book.specs.WellFormed.{IsWellFormed, along, may_follow}
-use Rattle.history_book.specs.declared.entries.End.{End}
-use Rattle.history_book.specs.declared.entries.End.TheVariants.{Aborted, Committed}
-use Rattle.history_book.specs.declared.entries.Entry.{Entry}
-use Rattle.history_book.specs.declared.entries.Entry.TheVariants.{Arrived, Did, Doomed, Ended, Fell, Placed, Rose, Undid}
-use Rattle.history_book.specs.declared.entries.Kept.{Kept}
-use Rattle.home_types.specs.declared.numbers.RunNo.{RunNo}
-use Rattle.hub_core.specs.Steps.{Waits, decide}
+use Rattle.hub_core.proofs.Prelude.{Aborted, Arrived, Bool, Committed, Configuration, Did, Doomed, End, Ended, Entry, Fell, IsTrue, IsWellFormed, Kept, List, None, OfRun, Option, Placed, PlacedAt, Point, Reading, Rose, RunNo, Setting, Some, Undid, Waits, [], along, along_on, ap, arith, both, common_steps, decide, entries_of, entry, false, fold, followed_by, grip_wait, if◌then◌else◌, is_none, is_run, is_some, list_all, map-append, may_follow, not, nothing_read, put, read_of, reading, reading_on, refl, subst, sym, true, ℕ, ◌&&◌, ◌++◌, ◌==◌, ◌∙◌, ◌∷◌, ◌≡◌}
 use Rattle.hub_core.specs.declared.waits.Why.TheVariants.{Follow}
-use Rattle.lock_leasing.specs.Configurations.{Configuration, Point, read_of}
-use Rattle.lock_leasing.specs.Waits.{grip_wait}
-use Rattle.std.proofs.Common.{ap, arith, refl, subst, sym, ◌∙◌}
-use Rattle.std.proofs.lemmas.Grind.{common_steps}
-use Rattle.std.proofs.lemmas.List.{map-append}
-use Rattle.std.specs.List.{list_all}
-use Rattle.std.specs.Prelude.{Bool, IsTrue, List, None, Option, Some, [], false, fold, if◌then◌else◌, is_none, is_some, not, true, ℕ, ◌&&◌, ◌++◌, ◌==◌, ◌∷◌, ◌≡◌}
-use Rattle.window_order.proofs.Cited.{both}
 
 -- the run has arrived, and is not placed
 abbrev pub IsUnplaced : OfRun → Type 0

@@ -1,38 +1,10 @@
 -- While a run holds a device, each other run at a command there waits; and the answer to a command that is not its run's last leaves the device held.
-use Rattle.command_rules.specs.Items.{is_ran}
-use Rattle.command_rules.specs.Rosters.{command_at, commands_of, run_no}
-use Rattle.history_book.proofs.Cited.{entries_on, none_is, put_other, put_same, reading_more, standing}
-use Rattle.history_book.specs.Histories.{entries_of, entry, kept_by, reading}
-use Rattle.history_book.specs.Lines.{before}
-use Rattle.history_book.specs.Readings.{OfRun, OnDevice, Reading, asks_on, did, is_access, is_doomed, is_live, is_open, next_of, pends, view_by}
-use Rattle.history_book.specs.Settings.{Setting, is_weak}
-use Rattle.history_book.specs.declared.entries.Entry.TheVariants.{Did}
-use Rattle.home_types.specs.Commands.{holds}
-use Rattle.home_types.specs.declared.commands.Answer.{Answer}
-use Rattle.home_types.specs.declared.commands.Answer.TheVariants.{Down, Fine, Found, Skipped}
-use Rattle.home_types.specs.declared.commands.Command.{Command}
-use Rattle.home_types.specs.declared.items.Item.{Item}
-use Rattle.home_types.specs.declared.items.Item.TheVariants.{Back, Failed, Ran}
-use Rattle.home_types.specs.declared.numbers.RunNo.{RunNo}
+use Rattle.hub_core.proofs.Prelude.{Answer, Back, Bool, Command, Commands, Configuration, ConfigurationIsKept, Did, Down, Failed, Fine, Found, Grips, HandsOut, IsBlocked, IsTrue, Item, List, NeverRevokes, None, OfRun, OnDevice, Option, Point, Ran, Reading, RunNo, Setting, Skipped, Some, Waits, [], ap, arith, asks_on, before, behind_wait, busy_case, command_at, commands_of, common_steps, cond, cons_option, decide_command, did, dirty_case, down_case, entries_of, entries_on, entry, false, find, first_case, grip_wait, has_touched, holds, holds_device, if◌then◌else◌, is_access, is_at_command, is_doomed, is_live, is_none, is_open, is_ran, is_some, is_wait, is_weak, kept_by, length, list_any, live_runs, max, next_device, next_of, none_is, not, option_map, option_or, order_stands, overdue_for, pends, point, put_other, put_same, read_facts, read_of, reading, reading_more, refl, run_no, slice_get, standing, strict_case, subst, sym, take_while-cons, true, view_by, ℕ, ◌&&◌, ◌++◌, ◌==◌, ◌||◌, ◌∙◌, ◌∷◌, ◌≡◌, ◌≢◌}
 use Rattle.hub_core.proofs.windows.StrongChoices.{command_current, command_is, live_stands}
 use Rattle.hub_core.proofs.waiting.AtCommands.{IsAt, at_asks, at_command, at_open, command_choice, device_told}
 use Rattle.hub_core.proofs.waiting.Moments.{calm_waits}
-use Rattle.hub_core.specs.BlockedRuns.{IsBlocked, NeverRevokes, is_at_command, is_wait, next_device}
-use Rattle.hub_core.specs.HubKept.{ConfigurationIsKept}
-use Rattle.hub_core.specs.Steps.{HandsOut, Waits, busy_case, decide_command, dirty_case, down_case, first_case, strict_case}
 use Rattle.hub_core.specs.declared.waits.Why.TheVariants.{Behind}
-use Rattle.lock_leasing.specs.Configurations.{Configuration, Grips, Point, point, read_of}
-use Rattle.lock_leasing.specs.declared.purposes.Purpose.TheVariants.{Commands}
 use Rattle.lock_leasing.specs.Order.{OrderStands, is_touched, open_runs_are_last}
-use Rattle.lock_leasing.specs.Waits.{behind_wait, grip_wait}
-use Rattle.lock_leasing.specs.Words.{has_touched, holds_device, live_runs, overdue_for}
-use Rattle.std.proofs.Common.{ap, arith, cond, refl, subst, sym, ◌∙◌}
-use Rattle.std.proofs.lemmas.Grind.{common_steps}
-use Rattle.std.proofs.lemmas.List.Sums.{take_while-cons}
-use Rattle.std.specs.List.{cons_option, list_any}
-use Rattle.std.specs.Option.{option_or}
-use Rattle.std.specs.Prelude.{Bool, IsTrue, List, None, Option, Some, [], false, find, if◌then◌else◌, is_none, is_some, length, max, not, option_map, slice_get, true, ℕ, ◌&&◌, ◌++◌, ◌==◌, ◌||◌, ◌∷◌, ◌≡◌, ◌≢◌}
-use Rattle.window_order.proofs.Cited.{order_stands, read_facts}
 
 -- The runs before a run that is open
 

@@ -1,24 +1,8 @@
 -- A lease that may fall due is made by a placing alone: neither the clock, nor a device that goes out, nor an answer makes one.
-use Rattle.command_rules.specs.Rosters.{commands_of, estimate_to_last, is_on, touches, touches_from}
-use Rattle.history_book.proofs.Cited.{put_all, put_keeps}
-use Rattle.history_book.specs.Histories.{entry}
-use Rattle.history_book.specs.Lines.{before}
-use Rattle.history_book.specs.Plans.{greatest, planned_end}
-use Rattle.history_book.specs.Readings.{OfRun, Reading, is_doomed, is_live, pends}
-use Rattle.history_book.specs.Settings.{Setting}
-use Rattle.history_book.specs.declared.entries.Entry.TheVariants.{Did}
-use Rattle.home_types.specs.declared.commands.Answer.{Answer}
-use Rattle.home_types.specs.declared.numbers.RunNo.{RunNo}
+use Rattle.hub_core.proofs.Prelude.{Answer, Bool, Did, Grips, List, None, OfRun, Point, Reading, RunNo, Setting, Some, [], answered_run, ap, arith, before, commands_of, common_steps, cond, drop, entry, estimate_to_last, false, find, greatest, has_effect, if◌then◌else◌, is_doomed, is_live, is_none, is_on, is_overdue, is_some, lease_deadline, length, length-append, list_any, live_before, min, nat_lt, not, option_map, overdue_for, pends, planned_end, point, put_all, put_keeps, refl, stamp_of, suc, sym, tenth_up, touches, touches_from, true, unwrap_or, zero, ℕ, ◌&&◌, ◌++◌, ◌+◌, ◌∙◌, ◌∷◌, ◌≡◌, ◌≤◌}
 use Rattle.hub_core.proofs.steps.Revoked.{overdue_without_grips}
 use Rattle.hub_core.proofs.waiting.QuietEntries.{live_same}
-use Rattle.lock_leasing.specs.Configurations.{Grips, Point, point}
 use Rattle.lock_leasing.specs.Leases.{NeverOverdue}
-use Rattle.lock_leasing.specs.Words.{has_effect, is_overdue, lease_deadline, live_before, overdue_for, stamp_of, tenth_up}
-use Rattle.std.proofs.Common.{ap, arith, length-append, refl, sym, ◌∙◌}
-use Rattle.std.proofs.lemmas.Grind.{common_steps}
-use Rattle.std.specs.List.{list_any}
-use Rattle.std.specs.Prelude.{Bool, List, None, Some, [], cond, drop, false, find, if◌then◌else◌, is_none, is_some, length, min, nat_lt, not, option_map, suc, true, unwrap_or, zero, ℕ, ◌&&◌, ◌+◌, ◌++◌, ◌∷◌, ◌≡◌, ◌≤◌}
-use Rattle.window_order.proofs.Cited.{answered_run}
 
 -- where none does, fewer do not
 find_fewer : {A : Type 0} (p q : A → Bool) (xs : List A) → ((x : A) → q x ≡ true → p x ≡ true) → find p xs ≡ None → find q xs ≡ None

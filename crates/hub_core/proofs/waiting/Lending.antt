@@ -1,25 +1,10 @@
 -- Whether a lease may fall due on the device of a run's next command, as the code asks it, is what the definition says.
-use Rattle.command_rules.specs.Rosters.{is_on, run_no}
-use Rattle.history_book.specs.Histories.{entries_of}
-use Rattle.history_book.specs.Settings.{is_weak, scheduler_of}
-use Rattle.history_book.specs.WellFormed.{IsWellFormed}
+use Rattle.hub_core.proofs.Prelude.{Asking, Bool, Configuration, Fcfs, IsAsking, IsKeptByModel, IsStandingOf, IsTrue, IsWellFormed, JustInTime, MayAsk, NeverRevokes, None, Scheduler, Some, Timeline, Visibility, WindowParts, ap, arith, common_steps, entries_of, false, inl, inr, is_mode, is_on, is_some, is_weak, lease_deadline, next_device, option_map, point_of, read_of, refl, run_no, scheduler_of, sym, true, unwrap_or, ℕ, ◌==◌, ◌∙◌, ◌≡◌, ◌⊎◌}
 use Rattle.home_types.specs.declared.modes.Mode.{Mode}
-use Rattle.home_types.specs.declared.modes.Scheduler.TheVariants.{Fcfs, JustInTime, Timeline}
-use Rattle.home_types.specs.declared.modes.Scheduler.{Scheduler}
 use Rattle.home_types.specs.declared.modes.Visibility.TheVariants.{Eventual, Global, Partitioned, Weak}
-use Rattle.home_types.specs.declared.modes.Visibility.{Visibility}
 use Rattle.hub_core.proofs.windows.StrongChoices.{served_in_turn}
 use Rattle.hub_core.proofs.waiting.AtCommands.{IsAt, at_command}
-use Rattle.hub_core.specs.BlockedRuns.{NeverRevokes, next_device}
-use Rattle.hub_core.specs.KeptByModel.{IsKeptByModel}
-use Rattle.hub_core.specs.Openings.{is_mode}
-use Rattle.lock_leasing.specs.Configurations.{Configuration, point_of, read_of}
 use Rattle.lock_leasing.specs.Leases.{IsNeverOverdue, overdue_lease}
-use Rattle.lock_leasing.specs.Standings.{Asking, IsAsking, IsStandingOf, MayAsk, WindowParts}
-use Rattle.lock_leasing.specs.Words.{lease_deadline}
-use Rattle.std.proofs.Common.{ap, arith, inl, inr, refl, sym, ◌∙◌}
-use Rattle.std.proofs.lemmas.Grind.{common_steps}
-use Rattle.std.specs.Prelude.{Bool, IsTrue, None, Some, false, is_some, option_map, true, unwrap_or, ℕ, ◌==◌, ◌≡◌, ◌⊎◌}
 
 -- The scheduler
 

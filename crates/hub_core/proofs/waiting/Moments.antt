@@ -1,27 +1,11 @@
 -- Where no lease is overdue, what a run at a command does is the same at every moment; and a run that waits at every moment meets no such lease.
-use Rattle.command_rules.specs.Rosters.{run_no}
-use Rattle.history_book.specs.Histories.{entries_of}
-use Rattle.history_book.specs.Readings.{Reading, asks_on, next_of}
-use Rattle.history_book.specs.Settings.{Setting, is_weak}
-use Rattle.history_book.specs.WellFormed.{IsWellFormed}
-use Rattle.history_book.specs.declared.entries.Cause.TheVariants.{Revoked}
-use Rattle.history_book.specs.declared.entries.Entry.TheVariants.{Doomed}
-use Rattle.home_types.specs.Commands.{holds}
-use Rattle.home_types.specs.declared.commands.Command.{Command}
+use Rattle.hub_core.proofs.Prelude.{Bool, Command, Commands, Configuration, Doomed, HandsOut, IsBlocked, IsWellFormed, Moves, NeverRevokes, None, Option, Point, Reading, Revoked, Setting, Some, Waits, [], ap, arith, asks_on, choice_of, command_cases, decide_command, entries_of, false, first_case, holds, if◌then◌else◌, is_some, is_wait, is_weak, lease_deadline, max, next_device, next_of, option_map, overdue_for, point, point_of, read_of, refl, run_no, skip_entries, strict_wait, sym, true, ℕ, ◌∙◌, ◌∷◌, ◌≡◌}
 use Rattle.hub_core.proofs.windows.StrongChoices.{command_current, command_is, skip_is}
 use Rattle.hub_core.proofs.waiting.AtCommands.{IsAt, at_asks, at_command, command_choice}
 use Rattle.hub_core.proofs.waiting.KeptLeases.{overdue_later}
-use Rattle.hub_core.specs.BlockedRuns.{IsBlocked, NeverRevokes, is_wait, next_device}
 use Rattle.hub_core.specs.Decisions.{current_command, skipped_command}
-use Rattle.hub_core.specs.Steps.{HandsOut, Moves, Waits, choice_of, command_cases, decide_command, first_case, skip_entries}
 use Rattle.hub_core.specs.declared.waits.Why.TheVariants.{Strict}
 use Rattle.hub_core.specs.declared.waits.Why.{Why}
-use Rattle.lock_leasing.specs.Configurations.{Configuration, Point, point, point_of, read_of}
-use Rattle.lock_leasing.specs.declared.purposes.Purpose.TheVariants.{Commands}
-use Rattle.lock_leasing.specs.Waits.{strict_wait}
-use Rattle.lock_leasing.specs.Words.{lease_deadline, overdue_for}
-use Rattle.std.proofs.Common.{ap, arith, refl, sym, ◌∙◌}
-use Rattle.std.specs.Prelude.{Bool, None, Option, Some, [], false, if◌then◌else◌, is_some, max, option_map, true, ℕ, ◌∷◌, ◌≡◌}
 
 -- at two moments at which no lease is overdue, or where it is skipped, the next command does the same
 pub same_command : (p : Point) (r a b k : ℕ) (c : Command)

@@ -1,20 +1,5 @@
 -- The live runs before a run that have a device in their footprint: no other run makes it wait for the device.
-use Rattle.command_rules.specs.Items.{is_ran}
-use Rattle.command_rules.specs.Rosters.{touches}
-use Rattle.history_book.proofs.Cited.{Each, each_filter, part}
-use Rattle.history_book.specs.Lines.{before}
-use Rattle.history_book.specs.Readings.{Reading, is_live}
-use Rattle.history_book.specs.Settings.{Setting}
-use Rattle.home_types.specs.declared.items.Item.{Item}
-use Rattle.home_types.specs.declared.items.Item.TheVariants.{Back, Failed, Ran}
-use Rattle.lock_leasing.proofs.Cited.{live_runs_live}
-use Rattle.lock_leasing.specs.Words.{live_before, live_runs}
-use Rattle.std.proofs.Common.{ap, arith, cond, refl, sym, ◌∙◌}
-use Rattle.std.proofs.lemmas.Grind.{common_steps}
-use Rattle.std.proofs.lemmas.List.Sums.{take_while-cons}
-use Rattle.std.specs.List.{cons_option, list_any}
-use Rattle.std.specs.Option.{option_or}
-use Rattle.std.specs.Prelude.{Bool, List, None, Option, Some, [], false, filter, find, fold, if◌then◌else◌, not, option_map, true, ℕ, ◌++◌, ◌==◌, ◌||◌, ◌∷◌, ◌≡◌, ◌≢◌}
+use Rattle.hub_core.proofs.Prelude.{Back, Bool, Each, Failed, Item, List, None, Option, Ran, Reading, Setting, Some, [], ap, arith, before, common_steps, cond, cons_option, each_filter, false, filter, find, fold, if◌then◌else◌, is_live, is_ran, list_any, live_before, live_runs, live_runs_live, not, option_map, option_or, part, refl, sym, take_while-cons, touches, true, ℕ, ◌++◌, ◌==◌, ◌||◌, ◌∙◌, ◌∷◌, ◌≡◌, ◌≢◌}
 
 -- the live runs before r with the device in their footprint
 abbrev pub runs_near : Setting → Reading → ℕ → ℕ → List ℕ

@@ -1,31 +1,7 @@
 -- A step that is elsewhere leaves what a run at a command does as it was, at every moment.
-use Rattle.command_rules.specs.Rosters.{commands_of, device_no, estimate_to_last, is_run, run_no, touches}
-use Rattle.history_book.proofs.Cited.{IsShaped, Shaped, along_on, did_touches, map_some, none_is, reading_on, shapes, standing}
-use Rattle.history_book.specs.Histories.{entries_of, entry, reading}
-use Rattle.history_book.specs.Plans.{greatest, planned_end}
-use Rattle.history_book.specs.Readings.{OfRun, PlacedAt, Reading, is_doomed, is_live, next_command, next_of, nothing_read, pends, sees_down}
-use Rattle.history_book.specs.Settings.{Setting, is_weak}
-use Rattle.history_book.specs.WellFormed.{IsWellFormed, along, may_follow}
-use Rattle.history_book.specs.declared.entries.Cause.TheVariants.{Revoked}
-use Rattle.history_book.specs.declared.entries.Entry.TheVariants.{Arrived, Doomed, Placed}
-use Rattle.history_book.specs.declared.entries.Entry.{Entry}
-use Rattle.history_book.specs.declared.entries.Kept.{Kept}
-use Rattle.home_types.specs.Commands.{holds, reads}
-use Rattle.home_types.specs.declared.commands.Command.{Command}
-use Rattle.window_devices.proofs.Cited.{none_there}
+use Rattle.hub_core.proofs.Prelude.{Absent, Arrived, Bool, Choice, Command, Commands, Configuration, Doomed, EndNoWait, Entry, Grips, HandsOut, IsBlocked, IsElsewhere, IsShaped, IsWellFormed, Kept, List, Moves, None, OfRun, Option, Over, Placed, PlacedAt, Point, Reading, Revoked, Setting, Shaped, Some, Waits, [], along, along_on, ap, arith, behind_case, busy_case, command_cases, commands_of, common_steps, decide, decide_answered, decide_arrived, decide_command, decide_doomed, device_no, did_touches, dirty_case, down_case, down_entries, effect_is, effective_write, entries_of, entry, estimate_to_last, false, find, first_case, fold, greatest, grip_wait, has_effect, holds, holds_device, if◌then◌else◌, inl, inr, is_doomed, is_live, is_none, is_overdue, is_run, is_some, is_wait, is_weak, last_some, lease_deadline, length, live_before, map-append, map_some, max, may_follow, min, nat_lt, next_command, next_device, next_of, none_is, none_there, not, nothing_read, only_if, option_map, overdue_case, pends, pends_touches, planned_end, point, point_of, read_of, reading, reading_on, reads, refl, run_no, sees_down, shapes, skip_entries, slice_get, stamp_of, standing, strict_case, subst, sym, tenth_up, touches, true, unwrap_or, ℕ, ◌&&◌, ◌++◌, ◌+◌, ◌==◌, ◌||◌, ◌∙◌, ◌∷◌, ◌≡◌}
 use Rattle.hub_core.proofs.waiting.QuietEntries.{IsNextOn, SameFor, SameRun, last_placing_ends_no_wait, none_behind, quiet_along, write_same}
-use Rattle.hub_core.specs.BlockedRuns.{EndNoWait, IsBlocked, IsElsewhere, is_wait, next_device}
-use Rattle.hub_core.specs.Steps.{Absent, Choice, HandsOut, Moves, Over, Waits, behind_case, busy_case, command_cases, decide, decide_answered, decide_arrived, decide_command, decide_doomed, dirty_case, down_case, down_entries, first_case, only_if, overdue_case, skip_entries, strict_case}
 use Rattle.hub_core.specs.declared.waits.Why.TheVariants.{Behind, Busy, Dirty, Strict}
-use Rattle.lock_leasing.specs.Configurations.{Configuration, Grips, Point, point, point_of, read_of}
-use Rattle.lock_leasing.specs.declared.purposes.Purpose.TheVariants.{Commands}
-use Rattle.lock_leasing.specs.Waits.{grip_wait}
-use Rattle.lock_leasing.specs.Words.{effective_write, has_effect, holds_device, is_overdue, last_some, lease_deadline, live_before, stamp_of, tenth_up}
-use Rattle.std.proofs.Common.{ap, arith, inl, inr, refl, subst, sym, ◌∙◌}
-use Rattle.std.proofs.lemmas.Grind.{common_steps}
-use Rattle.std.proofs.lemmas.List.{map-append}
-use Rattle.std.specs.Prelude.{Bool, List, None, Option, Some, [], false, find, fold, if◌then◌else◌, is_none, is_some, length, max, min, nat_lt, not, option_map, slice_get, true, unwrap_or, ℕ, ◌&&◌, ◌++◌, ◌+◌, ◌==◌, ◌||◌, ◌∷◌, ◌≡◌}
-use Rattle.lock_leasing.proofs.Cited.{effect_is, pends_touches}
 use Rattle.hub_core.proofs.waiting.NearRuns.{found_same, seen_same}
 use Rattle.hub_core.proofs.steps.GiveCauses.{next_pends}
 

@@ -1,45 +1,11 @@
 -- What entries that end no wait leave of what the step of a run at a command looks at.
-use Rattle.command_rules.specs.Rosters.{Run, command_at, commands_of, is_on, no_command, shares, touches, touches_from}
-use Rattle.history_book.proofs.Cited.{Shaped, Standing, aborted, did_touches, map_some, part, put_all, put_keeps, put_other, shapes_step, split_part}
-use Rattle.history_book.specs.Histories.{entry, line_after}
-use Rattle.history_book.specs.Lines.{Split, before, is_item_on, put_before}
-use Rattle.history_book.specs.Readings.{OfRun, OnDevice, PlacedAt, Reading, is_doomed, is_live, next_of, put}
-use Rattle.history_book.specs.Settings.{Setting, is_strict}
-use Rattle.history_book.specs.WellFormed.{along, may_follow}
-use Rattle.history_book.specs.declared.entries.Entry.{Entry}
-use Rattle.history_book.specs.declared.entries.Entry.TheVariants.{Arrived, Did, Doomed, Ended, Fell, Placed, Rose, Undid}
-use Rattle.home_types.specs.declared.commands.Answer.{Answer}
-use Rattle.home_types.specs.declared.commands.Command.{Command}
-use Rattle.home_types.specs.declared.items.Item.{Item}
-use Rattle.home_types.specs.declared.items.Item.TheVariants.{Back, Failed, Ran}
-use Rattle.home_types.specs.declared.numbers.DeviceNo.{DeviceNo}
-use Rattle.home_types.specs.declared.numbers.RunNo.{RunNo}
+use Rattle.hub_core.proofs.Prelude.{Aborted, Answer, Arrived, Back, Bool, Cause, Command, Committed, DeviceNo, Did, Doomed, End, Ended, Entry, Failed, Fell, Grips, Item, Kind, List, None, OfRun, OnDevice, Option, Placed, PlacedAt, Ran, Reading, Rose, Run, RunNo, Scheduler, Setting, Shaped, Some, Split, Stand, Standing, Undid, Visibility, Write, [], aborted, along, answered_run, ap, arith, before, command_at, commands_of, common_steps, cons_option, did_touches, drop, drop_more, effective_write, entry, false, filter, find, fold, front_for, if◌then◌else◌, is_doomed, is_item_on, is_live, is_none, is_on, is_quiet, is_ran, is_some, is_strict, is_undo, is_undone, last_filter, last_some, left_after, length, length-drop, line_after, line_for, list_all, list_any, live_before, live_runs, map_some, may_follow, next_is, next_of, nil_from_length, no_command, not, option_map, option_or, part, planned_times, put, put_all, put_before, put_keeps, put_other, refl, shapes_step, shares, slice_get, slice_index_or, split_of, split_part, strict_wait, subst, sym, take, take-append-drop, touches, touches_from, true, unwrap_or, write_of, ℕ, ◌&&◌, ◌++◌, ◌+◌, ◌-◌, ◌<◌, ◌==◌, ◌||◌, ◌∙◌, ◌∷◌, ◌≡◌, ◌≢◌}
 use Rattle.hub_core.proofs.kept.EventsKept.{IsEvent, front_with}
-use Rattle.hub_core.specs.BlockedRuns.{is_quiet}
-use Rattle.lock_leasing.specs.Configurations.{Grips, is_undo}
-use Rattle.lock_leasing.specs.Words.{Write, effective_write, is_undone, last_some, live_before, live_runs, write_of}
-use Rattle.std.proofs.Common.{ap, arith, refl, subst, sym, ◌∙◌}
-use Rattle.std.proofs.lemmas.Grind.{common_steps}
 use Rattle.std.proofs.lemmas.List.Elements.{filter-append}
-use Rattle.std.proofs.lemmas.List.{append-nil, drop_more, length-append, length-drop, nil_from_length, take-append-drop}
-use Rattle.std.specs.List.{cons_option, list_all, list_any}
-use Rattle.std.specs.Option.{option_or}
-use Rattle.std.specs.Prelude.{Bool, List, None, Option, Some, [], drop, false, filter, find, fold, if◌then◌else◌, is_none, is_some, length, not, option_map, slice_get, slice_index_or, take, true, unwrap_or, ℕ, ◌&&◌, ◌++◌, ◌+◌, ◌-◌, ◌<◌, ◌==◌, ◌||◌, ◌∷◌, ◌≡◌, ◌≢◌}
-use Rattle.window_order.proofs.Cited.{answered_run, left_after, next_is}
-use Rattle.lock_leasing.specs.Waits.{strict_wait}
-use Rattle.lock_leasing.proofs.Cited.{last_filter, live_stands}
+use Rattle.std.proofs.lemmas.List.{append-nil, length-append}
+use Rattle.lock_leasing.proofs.Cited.{live_stands}
 use Rattle.hub_core.proofs.waiting.NearRuns.{before_more, filter_insert, filter_twice, last_insert, near_part, near_same, none_left, runs_near, some_left}
-use Rattle.home_types.specs.declared.worlds.Stand.{Stand}
 use Rattle.home_types.specs.declared.modes.Visibility.TheVariants.{Eventual, Global, Partitioned, Weak}
-use Rattle.home_types.specs.declared.modes.Visibility.{Visibility}
-use Rattle.home_types.specs.declared.modes.Scheduler.{Scheduler}
-use Rattle.home_types.specs.declared.kinds.Kind.{Kind}
-use Rattle.history_book.specs.declared.entries.End.TheVariants.{Aborted, Committed}
-use Rattle.history_book.specs.declared.entries.End.{End}
-use Rattle.history_book.specs.declared.entries.Cause.{Cause}
-use Rattle.history_book.specs.Plans.{planned_times}
-use Rattle.history_book.specs.Gaps.{front_for, line_for, split_of}
-use Rattle.command_rules.specs.Items.{is_ran}
 
 -- What is the same
 

@@ -1,10 +1,6 @@
 -- Who may sleep: a take of a blocked run changes nothing but the moment, and each sleeper that no step has called is blocked.
-use Rattle.hub_core.specs.BlockedRuns.{IsBlocked, is_wait}
-use Rattle.hub_core.specs.Steps.{Absent, Choice, HandsOut, Moves, Over, Waits, after_choice, after_take, at_moment, choice_of, decide}
+use Rattle.hub_core.proofs.Prelude.{Absent, Bool, Choice, Configuration, HandsOut, IsBlocked, Moves, Over, Waits, after_choice, after_take, ap, arith, at_moment, choice_of, decide, is_wait, max, point_of, refl, true, ℕ, ◌∙◌, ◌≡◌, ◌≤◌}
 use Rattle.hub_core.specs.declared.waits.Why.{Why}
-use Rattle.lock_leasing.specs.Configurations.{Configuration, point_of}
-use Rattle.std.proofs.Common.{ap, arith, refl, ◌∙◌}
-use Rattle.std.specs.Prelude.{Bool, max, true, ℕ, ◌≡◌, ◌≤◌}
 
 -- Takes of a blocked run
 

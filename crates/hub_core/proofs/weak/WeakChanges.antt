@@ -1,29 +1,7 @@
 -- What is kept of a configuration of the weak model, where entries are made and grips go out and come home.
-use Rattle.command_rules.specs.Rosters.{commands_of, run_no}
-use Rattle.history_book.proofs.Cited.{put_other, put_same}
-use Rattle.history_book.specs.Histories.{entry, kept_by}
-use Rattle.history_book.specs.Readings.{OfRun, Reading, is_doomed, next_command}
-use Rattle.history_book.specs.Settings.{Setting}
-use Rattle.history_book.specs.WellFormed.{along, may_follow}
-use Rattle.history_book.specs.declared.entries.Cause.{Cause}
-use Rattle.history_book.specs.declared.entries.Entry.TheVariants.{Did}
-use Rattle.history_book.specs.declared.entries.Entry.{Entry}
-use Rattle.home_types.specs.Commands.{fails}
-use Rattle.home_types.specs.declared.commands.Answer.{Answer}
-use Rattle.home_types.specs.declared.commands.Command.{Command}
+use Rattle.hub_core.proofs.Prelude.{Answer, Cause, Command, Commands, Configuration, Did, EachOut, Entry, Grip, Grips, GripsFit, HoldsNone, IsTrue, List, None, OfRun, Probes, Purpose, Reading, Setting, Some, Undoes, [], along, and_parts, ap, arith, commands_of, common_steps, entry, fails, false, fold, is_doomed, is_some, kept_by, length, may_follow, next_command, none_fails, not, point, probes_of, put_other, put_same, read_of, refl, run_no, slice_get, subst, sym, true, weakly_allowed, ℕ, ◌&&◌, ◌++◌, ◌<◌, ◌==◌, ◌∙◌, ◌∷◌, ◌≡◌, ◌≢◌, ◌≤◌}
 use Rattle.hub_core.proofs.steps.Afters.{each_with, read_with}
-use Rattle.hub_core.specs.HubKept.{EachOut, probes_of}
 use Rattle.hub_core.specs.WeakKept.{NoneHasFailed, WeakIsKept, goes_weakly}
-use Rattle.legal_days.specs.LegalWindows.{none_fails, weakly_allowed}
-use Rattle.lock_leasing.specs.Configurations.{Configuration, Grip, Grips, point, read_of}
-use Rattle.lock_leasing.specs.declared.purposes.Purpose.TheVariants.{Commands, Probes, Undoes}
-use Rattle.lock_leasing.specs.declared.purposes.Purpose.{Purpose}
-use Rattle.lock_leasing.specs.Places.{GripsFit}
-use Rattle.std.proofs.Common.{ap, arith, refl, subst, sym, ◌∙◌}
-use Rattle.std.proofs.lemmas.Bool.{and_parts}
-use Rattle.std.proofs.lemmas.Grind.{common_steps}
-use Rattle.std.specs.Prelude.{IsTrue, List, None, Some, [], false, fold, is_some, length, not, slice_get, true, ℕ, ◌&&◌, ◌++◌, ◌<◌, ◌==◌, ◌∷◌, ◌≡◌, ◌≢◌, ◌≤◌}
-use Rattle.window_order.proofs.Cited.{HoldsNone}
 
 -- another moment, other grips, and other probes left, with the same history
 pub weak_same : (s : Configuration) (rounds opened m : ℕ) (held probes : ℕ → ℕ) (g : Grips) → (read_of s).moment ≤ m

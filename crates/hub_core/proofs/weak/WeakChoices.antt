@@ -1,30 +1,12 @@
 -- What a run of the weak model does: the cases that are left. Where no device is out some run that has not ended goes on.
-use Rattle.command_rules.specs.Rosters.{device_no, run_no}
-use Rattle.history_book.specs.Readings.{Reading, next_command, next_of, sees_down}
-use Rattle.history_book.specs.Settings.{Setting, is_weak, scheduler_of}
-use Rattle.history_book.specs.declared.entries.Cause.TheVariants.{DownAtEnd}
-use Rattle.history_book.specs.declared.entries.Cause.{Cause}
-use Rattle.history_book.specs.declared.entries.End.TheVariants.{Committed}
-use Rattle.history_book.specs.declared.entries.Entry.TheVariants.{Doomed, Ended}
-use Rattle.home_types.specs.Commands.{holds}
-use Rattle.home_types.specs.declared.commands.Command.{Command}
-use Rattle.home_types.specs.declared.modes.Scheduler.TheVariants.{Fcfs}
-use Rattle.home_types.specs.declared.modes.Scheduler.{Scheduler}
+use Rattle.hub_core.proofs.Prelude.{Cause, Command, Commands, Committed, Configuration, Doomed, DownAtEnd, Ended, Fcfs, Grips, HandsOut, Moves, Over, Reading, Scheduler, Setting, SomeRunMoves, Visibility, Waits, [], aborts, ap, command_cases, decide, decide_answered, decide_command, decide_doomed, device_no, down_entries, false, first_case, holds, if◌then◌else◌, is_out, is_wait, is_weak, max, next_command, next_of, not, only_if, option_map, point, point_of, read_of, refl, run_no, scheduler_of, sees_down, skip_entries, sym, true, undo_cases, unwrap_or, ℕ, ◌&&◌, ◌||◌, ◌∙◌, ◌∷◌, ◌≡◌}
 use Rattle.home_types.specs.declared.modes.Visibility.TheVariants.{Eventual, Global, Partitioned, Weak}
-use Rattle.home_types.specs.declared.modes.Visibility.{Visibility}
 use Rattle.hub_core.proofs.windows.Progress.{IsLeastUnended, least_leads, least_unended, run_goes}
-use Rattle.hub_core.specs.BlockedRuns.{is_wait}
 use Rattle.hub_core.proofs.windows.StrongChoices.{same_map}
 use Rattle.hub_core.proofs.steps.Causes.{never_down_at_end, never_strict}
-use Rattle.hub_core.specs.HubCalls.{SomeRunMoves}
-use Rattle.hub_core.specs.Steps.{HandsOut, Moves, Over, Waits, aborts, command_cases, decide, decide_answered, decide_command, decide_doomed, down_entries, first_case, only_if, skip_entries, undo_cases}
 use Rattle.hub_core.specs.WeakKept.{WeakIsKept}
 use Rattle.hub_core.specs.WeakSteps.{weak_command, weak_rest}
 use Rattle.hub_core.specs.declared.waits.Why.TheVariants.{Busy, Strict}
-use Rattle.lock_leasing.specs.Configurations.{Configuration, Grips, is_out, point, point_of, read_of}
-use Rattle.lock_leasing.specs.declared.purposes.Purpose.TheVariants.{Commands}
-use Rattle.std.proofs.Common.{ap, refl, sym, ◌∙◌}
-use Rattle.std.specs.Prelude.{[], false, if◌then◌else◌, max, not, option_map, true, unwrap_or, ℕ, ◌&&◌, ◌||◌, ◌∷◌, ◌≡◌}
 
 -- The cases that are left
 

@@ -1,31 +1,11 @@
 -- What follows of a window of the weak model: its sizes, and what it is when it is closed.
-use Rattle.history_book.specs.Histories.{entries_of, entry, reading}
-use Rattle.history_book.specs.Readings.{Reading, nothing_read, sees_down}
-use Rattle.history_book.specs.Settings.{Setting}
-use Rattle.history_book.specs.WellFormed.{IsWellFormed, along, each_entry}
-use Rattle.history_book.specs.declared.entries.Cause.TheVariants.{DownAtEnd, Lost, MustDown, Refuted, Revoked}
-use Rattle.history_book.specs.declared.entries.End.TheVariants.{Committed}
-use Rattle.history_book.specs.declared.entries.Entry.TheVariants.{Arrived, Did, Doomed, Ended, Fell, Placed, Rose, Undid}
-use Rattle.history_book.specs.declared.entries.Entry.{Entry}
+use Rattle.hub_core.proofs.Prelude.{Arrived, Bool, CallsAreAccounted, Committed, Configuration, Did, Doomed, Down, DownAtEnd, Ended, Entry, Fell, Fine, Found, IsJustified, IsLegalWindow, IsSeriallyLegal, IsTrue, IsWeaklyLegal, IsWellFormed, List, Lost, MustDown, None, Placed, Reading, Refuted, Revoked, Rose, Setting, Skipped, Some, Stand, Undid, [], abort_is_justified, all_ended, along, and_parts, ap, command_at, each_entry, entries_of, entry, false, history_of, is_run, keeps_leases, length, list_all, nothing_read, read_of, reading, refl, sees_down, stand_at, subst, sym, true, weakly_allowed, ℕ, ◌<◌, ◌||◌, ◌∙◌, ◌∷◌, ◌≡◌}
 use Rattle.history_book.specs.declared.records.WindowRecord.{WindowRecord}
-use Rattle.home_types.specs.HomeStates.{stand_at}
-use Rattle.home_types.specs.declared.commands.Answer.TheVariants.{Down, Fine, Found, Skipped}
-use Rattle.home_types.specs.declared.worlds.Stand.{Stand}
 use Rattle.hub_core.proofs.kept.Sizes.{steady_up}
 use Rattle.hub_core.proofs.windows.CalmHistories.{IsPlain, NoneFailed, all_homed, along_less, downs_told}
 use Rattle.hub_core.proofs.windows.Closings.{IsQuiet, all_have_ended, homed_in, plain_committed}
-use Rattle.legal_days.specs.AccountedCalls.{CallsAreAccounted}
-use Rattle.hub_core.specs.HubKept.{keeps_leases}
-use Rattle.legal_days.specs.JustifiedAborts.{IsJustified, abort_is_justified}
-use Rattle.legal_days.specs.LegalWindows.{IsLegalWindow, IsSeriallyLegal, IsWeaklyLegal, all_ended, history_of, weakly_allowed}
 use Rattle.hub_core.specs.MustChecks.{has_must_check}
 use Rattle.hub_core.specs.WeakKept.{WeakIsKept}
-use Rattle.lock_leasing.specs.Configurations.{Configuration, read_of}
-use Rattle.command_rules.specs.Rosters.{command_at, is_run}
-use Rattle.std.proofs.Common.{ap, refl, subst, sym, ◌∙◌}
-use Rattle.std.proofs.lemmas.Bool.{and_parts}
-use Rattle.std.specs.List.{list_all}
-use Rattle.std.specs.Prelude.{Bool, IsTrue, List, None, Some, [], false, length, true, ℕ, ◌<◌, ◌||◌, ◌∷◌, ◌≡◌}
 
 -- What is allowed under the weak model
 

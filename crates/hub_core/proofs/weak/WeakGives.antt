@@ -1,22 +1,5 @@
 -- What is kept of a configuration of the weak model stays so with each device that comes home, from a run or from the detector.
-use Rattle.command_rules.specs.Rosters.{command_at, device_no, is_run, run_no}
-use Rattle.device_gate.specs.Calls.{answer_told, has_died}
-use Rattle.device_gate.specs.declared.slips.Told.TheVariants.{Died, Sensed, Worked}
-use Rattle.device_gate.specs.declared.slips.Told.{Told}
-use Rattle.history_book.proofs.Cited.{Shaped, put_other, put_same, shapes}
-use Rattle.history_book.specs.Histories.{entries_of, entry}
-use Rattle.history_book.specs.Readings.{OfRun, Reading, did, is_doomed, is_open, next_command, put, sees_up}
-use Rattle.history_book.specs.Settings.{Setting, is_device, is_weak}
-use Rattle.history_book.specs.WellFormed.{along, may_follow, suits}
-use Rattle.history_book.specs.declared.entries.Cause.TheVariants.{Lost, MustDown, Refuted}
-use Rattle.history_book.specs.declared.entries.Cause.{Cause}
-use Rattle.history_book.specs.declared.entries.Entry.TheVariants.{Did, Doomed, Fell, Rose}
-use Rattle.history_book.specs.declared.entries.Entry.{Entry}
-use Rattle.home_types.specs.Commands.{driven, fails, reads, refutes}
-use Rattle.home_types.specs.Kinds.{has_value, kind_at}
-use Rattle.home_types.specs.declared.commands.Answer.TheVariants.{Down, Fine, Found}
-use Rattle.home_types.specs.declared.commands.Answer.{Answer}
-use Rattle.home_types.specs.declared.commands.Command.{Command}
+use Rattle.hub_core.proofs.Prelude.{Answer, Bool, Cause, Command, Commands, Configuration, Did, Died, Doomed, Down, Entry, Fell, Fine, Found, Grip, Grips, GripsFit, HoldsNone, IsTrue, List, Lost, MustDown, None, OfRun, Option, Probes, Purpose, Reading, Refuted, Rose, Sensed, Setting, Shaped, Some, Told, Undoes, Worked, [], after_give, along, and-false, and-true, answer_told, ap, ap₂, arith, both, command_at, command_entries, common_steps, device_no, did, driven, entries_of, entry, eq-eqb, fails, false, find, fits_other, fits_same, fits_without, fold, give_entries, has_answer, has_died, has_value, if◌then◌else◌, is_device, is_doomed, is_open, is_run, is_some, is_weak, kind_at, length, live_runs, ltb-true, may_follow, next_command, none_left, not, option_map, option_to_list, point, probe_entries, probes_of, put, put_other, put_same, read_of, reads, refl, refutes, run_no, run_positive, sees_up, shapes, subst, suc, suits, sym, true, weakly_allowed, ℕ, ◌&&◌, ◌<◌, ◌==◌, ◌∙◌, ◌∷◌, ◌≡◌, ◌≢◌, ◌≤◌}
 use Rattle.hub_core.proofs.kept.HistoryKept.{less_one}
 use Rattle.hub_core.proofs.kept.Kept.{probes_home}
 use Rattle.hub_core.proofs.kept.ReturnsKept.{Brings, BringsFor, IsOut, counted_down, counted_up, out_is, probes_answered}
@@ -24,22 +7,7 @@ use Rattle.hub_core.proofs.steps.Causes.{and_is, and_three, answered_last}
 use Rattle.hub_core.proofs.steps.Gives.{command_back_follows}
 use Rattle.hub_core.proofs.steps.Takes.{command_is, live_run}
 use Rattle.hub_core.proofs.weak.WeakChanges.{IsStillOut, made_with, maker_sound, out_stays, passes_did, passes_doomed, weak_made}
-use Rattle.hub_core.specs.HubKept.{probes_of}
-use Rattle.legal_days.specs.JustifiedAborts.{has_answer}
-use Rattle.legal_days.specs.LegalWindows.{weakly_allowed}
-use Rattle.hub_core.specs.Steps.{after_give, command_entries, give_entries, probe_entries}
 use Rattle.hub_core.specs.WeakKept.{NoneHasFailed, WeakIsKept}
-use Rattle.lock_leasing.specs.Configurations.{Configuration, Grip, Grips, point, read_of}
-use Rattle.lock_leasing.specs.declared.purposes.Purpose.TheVariants.{Commands, Probes, Undoes}
-use Rattle.lock_leasing.specs.declared.purposes.Purpose.{Purpose}
-use Rattle.lock_leasing.specs.Places.{GripsFit}
-use Rattle.lock_leasing.specs.Words.{live_runs}
-use Rattle.std.proofs.Common.{ap, ap₂, arith, refl, subst, sym, ◌∙◌}
-use Rattle.std.proofs.Math.Bool.{and-false, and-true}
-use Rattle.std.proofs.lemmas.Bool.{eq-eqb, ltb-true}
-use Rattle.std.proofs.lemmas.Grind.{common_steps}
-use Rattle.std.specs.Prelude.{Bool, IsTrue, List, None, Option, Some, [], false, find, fold, if◌then◌else◌, is_some, length, not, option_map, option_to_list, suc, true, ℕ, ◌&&◌, ◌<◌, ◌==◌, ◌∷◌, ◌≡◌, ◌≢◌, ◌≤◌}
-use Rattle.window_order.proofs.Cited.{HoldsNone, both, fits_other, fits_same, fits_without, none_left, run_positive}
 
 -- The entries of a device that comes home
 

@@ -1,18 +1,9 @@
 -- What is kept of a configuration of the weak model stays so with each probe that goes out.
-use Rattle.history_book.specs.Readings.{put}
-use Rattle.home_types.specs.HomeStates.{stand_at}
+use Rattle.hub_core.proofs.Prelude.{Bool, Configuration, HoldsNone, None, Probes, Some, after_take_probe, ap, arith, effective_write, eq-eqb, false, fits_with, if◌then◌else◌, may_probe, option_map, point_of, probe_grip, put, read_of, refl, restored, stand_at, standing_value, suc, true, unwrap_or, ℕ, ◌-◌, ◌≡◌}
 use Rattle.hub_core.proofs.kept.Kept.{out_with}
 use Rattle.hub_core.proofs.kept.ProbesKept.{probe_may, probes_asked}
 use Rattle.hub_core.proofs.weak.WeakChanges.{weak_same}
-use Rattle.hub_core.specs.Steps.{after_take_probe, may_probe, probe_grip, restored}
 use Rattle.hub_core.specs.WeakKept.{WeakIsKept, goes_weakly}
-use Rattle.lock_leasing.specs.Configurations.{Configuration, point_of, read_of}
-use Rattle.lock_leasing.specs.declared.purposes.Purpose.TheVariants.{Probes}
-use Rattle.lock_leasing.specs.Words.{effective_write, standing_value}
-use Rattle.std.proofs.Common.{ap, arith, refl}
-use Rattle.std.proofs.lemmas.Bool.{eq-eqb}
-use Rattle.std.specs.Prelude.{Bool, None, Some, false, if◌then◌else◌, option_map, suc, true, unwrap_or, ℕ, ◌-◌, ◌≡◌}
-use Rattle.window_order.proofs.Cited.{HoldsNone, fits_with}
 
 -- where a device stands is what was written last
 pub weak_standing : (s : Configuration) (rounds opened : ℕ) (held : ℕ → ℕ) (d : ℕ) → WeakIsKept s rounds opened held → standing_value (point_of s) d ≡ (read_of s).last d

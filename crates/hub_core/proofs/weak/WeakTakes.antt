@@ -1,37 +1,12 @@
 -- What is kept of a configuration of the weak model is so at the start, and stays so with each step of a run.
-use Rattle.command_rules.specs.Rosters.{commands_of, is_run, run_no}
-use Rattle.history_book.proofs.Cited.{Shaped, put_keeps, put_other, put_same, shapes}
-use Rattle.history_book.specs.Histories.{entries_of, entry, kept_by}
-use Rattle.history_book.specs.Readings.{OfRun, PlacedAt, Reading, is_live, next_of, put, sees_down}
-use Rattle.history_book.specs.Settings.{Setting, is_device, is_weak}
-use Rattle.history_book.specs.WellFormed.{along, may_follow}
-use Rattle.history_book.specs.declared.entries.Cause.TheVariants.{MustDown}
-use Rattle.history_book.specs.declared.entries.End.TheVariants.{Aborted, Committed}
-use Rattle.history_book.specs.declared.entries.Entry.TheVariants.{Arrived, Did, Doomed, Ended, Placed}
-use Rattle.history_book.specs.declared.entries.Entry.{Entry}
-use Rattle.home_types.specs.Commands.{refutes}
-use Rattle.home_types.specs.HomeStates.{stand_at}
-use Rattle.home_types.specs.Kinds.{has_value, kind_at}
-use Rattle.home_types.specs.declared.commands.Answer.TheVariants.{Down, Skipped}
-use Rattle.home_types.specs.declared.commands.Command.{Command}
+use Rattle.hub_core.proofs.Prelude.{Aborted, Arrived, Bool, Command, Commands, Committed, Configuration, Did, Doomed, Down, Ended, Entry, Grip, HandsOut, HoldsNone, IsTrue, List, MayOpen, Moves, MustDown, None, OfRun, Option, Placed, PlacedAt, Reading, Setting, Shaped, Skipped, Some, [], after_choice, after_take, along, and-false, answers_down, ap, append-nil, arith, at_moment, busy_wait, commands_of, common_steps, down_entries, entries_of, entry, false, fits_other, fits_with, fold, has_value, holds_none, if◌then◌else◌, is_device, is_live, is_none, is_run, is_some, is_weak, kept_by, kind_at, length, max, may_command, may_follow, names_values_of, next_of, none_fails, not, opened, point, put, put_keeps, put_other, put_same, read_of, refl, refutes, run_no, sees_down, shapes, stand_at, subst, sym, true, weakly_allowed, ℕ, ◌&&◌, ◌++◌, ◌+◌, ◌<◌, ◌||◌, ◌∙◌, ◌∷◌, ◌≡◌, ◌≢◌, ◌≤◌}
 use Rattle.hub_core.proofs.kept.HistoryKept.{holds_is}
 use Rattle.hub_core.proofs.kept.Kept.{gripless, out_with, probes_out, probes_told}
 use Rattle.hub_core.proofs.steps.Causes.{IsAllowed, never_down_at_end, take_is_allowed}
 use Rattle.hub_core.proofs.steps.Choices.{Commanding, IsNext, decide_is}
 use Rattle.hub_core.proofs.steps.Takes.{Follows, IsHomed, take_follows}
 use Rattle.hub_core.proofs.weak.WeakChanges.{maker_sound, out_stays, passes_did, passes_doomed, passes_same, weak_made, weak_same}
-use Rattle.legal_days.specs.LegalWindows.{none_fails, weakly_allowed}
-use Rattle.hub_core.specs.Openings.{MayOpen, names_values_of}
-use Rattle.hub_core.specs.Steps.{HandsOut, Moves, after_choice, after_take, answers_down, at_moment, down_entries, opened}
 use Rattle.hub_core.specs.WeakKept.{NoneHasFailed, WeakIsKept, goes_weakly}
-use Rattle.lock_leasing.specs.Configurations.{Configuration, Grip, point, read_of}
-use Rattle.lock_leasing.specs.declared.purposes.Purpose.TheVariants.{Commands}
-use Rattle.std.proofs.Common.{ap, append-nil, arith, refl, subst, sym, ◌∙◌}
-use Rattle.std.proofs.Math.Bool.{and-false}
-use Rattle.std.proofs.lemmas.Grind.{common_steps}
-use Rattle.std.specs.Prelude.{Bool, IsTrue, List, None, Option, Some, [], false, fold, if◌then◌else◌, is_none, is_some, length, max, not, true, ℕ, ◌&&◌, ◌++◌, ◌+◌, ◌<◌, ◌||◌, ◌∷◌, ◌≡◌, ◌≢◌, ◌≤◌}
-use Rattle.lock_leasing.specs.Waits.{busy_wait}
-use Rattle.window_order.proofs.Cited.{HoldsNone, fits_other, fits_with, holds_none, may_command}
 
 -- The start
 

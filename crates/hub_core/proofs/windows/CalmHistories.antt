@@ -1,42 +1,8 @@
 -- A window in which no device fails: no device is down, no run sees one down, no answer is Down, and a run is doomed by a must `check` alone.
-use Rattle.command_rules.specs.Rosters.{command_at, commands_of, no_command, run_no, touches, touches_from}
-use Rattle.history_book.proofs.Cited.{each_found, own_devices, put_all, put_keeps}
-use Rattle.history_book.specs.Histories.{answered, entries_of, entry, is_fall_of, more_if, reading}
-use Rattle.history_book.specs.Readings.{First, Last, Event, LogMark, OfRun, OnDevice, Reading, events_of, is_access, is_fall, is_last_mark, next_command, nothing_read, put, same_answer, sees_down, sees_up, span_of, view_by}
-use Rattle.history_book.specs.Settings.{Setting, devices_of, is_device, is_strict}
-use Rattle.history_book.specs.WellFormed.{IsWellFormed, along, each_entry, may_follow}
-use Rattle.history_book.specs.declared.entries.Cause.{Cause}
-use Rattle.history_book.specs.declared.entries.Cause.TheVariants.{DownAtEnd, Lost, MustDown, Refuted, Revoked}
-use Rattle.history_book.specs.declared.entries.End.TheVariants.{Aborted, Committed}
-use Rattle.history_book.specs.declared.entries.Entry.{Entry}
-use Rattle.history_book.specs.declared.entries.Entry.TheVariants.{Arrived, Did, Doomed, Ended, Fell, Placed, Rose, Undid}
-use Rattle.home_types.specs.Commands.{fails}
-use Rattle.home_types.specs.HomeStates.{stand_at}
-use Rattle.home_types.specs.Kinds.{kind_at}
-use Rattle.home_types.specs.declared.commands.Answer.{Answer}
-use Rattle.home_types.specs.declared.commands.Answer.TheVariants.{Down, Fine, Found, Skipped}
-use Rattle.home_types.specs.declared.commands.Command.{Command}
-use Rattle.home_types.specs.declared.kinds.Kind.{Kind}
-use Rattle.home_types.specs.declared.modes.Scheduler.TheVariants.{Fcfs}
-use Rattle.legal_days.proofs.Cited.{count_cons}
-use Rattle.legal_days.specs.AccountedCalls.{told_falls}
+use Rattle.hub_core.proofs.Prelude.{Aborted, Answer, Arrived, Bool, Cause, Command, Committed, Configuration, ConfigurationIsKept, Did, Doomed, Down, DownAtEnd, Ended, Entry, Event, Fcfs, Fell, Fine, First, Found, IsJustified, IsTrue, IsWellFormed, Kind, Last, List, LogMark, Lost, MayOpen, MustDown, None, OfRun, OnDevice, Option, Placed, Reading, Refuted, Revoked, Rose, Setting, Skipped, Some, Undid, [], abort_is_justified, along, and_parts, answered, ap, append-nil, arith, both_ways, command_at, commands_of, common_steps, cond, count_by, count_cons, devices_of, down_at_end, each_entry, each_found, entries_of, entry, eq-eqb, equals_some, events_of, fails, false, find, fold, has_answer, has_touched, if◌then◌else◌, is_access, is_device, is_fall, is_fall_of, is_last_mark, is_none, is_some, is_strict, keeps_leases, kind_at, length, list_all, list_any, ltb-true, may_follow, more_if, names_values_of, next_command, no_command, no_grips, not, nothing_read, option_map, option_or, own_devices, point, put, put_all, put_keeps, reading, refl, run_no, same_answer, sees_down, sees_up, slice_get, slice_get-get_or, span_of, stand_at, suc, sym, take_while, take_while-cons, told_falls, touches, touches_from, true, unwrap_or, view_by, zero, ℕ, ◌&&◌, ◌++◌, ◌+◌, ◌<◌, ◌==◌, ◌||◌, ◌∙◌, ◌∷◌, ◌≡◌}
 use Rattle.legal_days.specs.CleanReads.{entry_is_clean}
-use Rattle.hub_core.specs.HubKept.{ConfigurationIsKept, keeps_leases}
-use Rattle.legal_days.specs.JustifiedAborts.{IsJustified, abort_is_justified, equals_some, has_answer}
-use Rattle.hub_core.specs.Openings.{MayOpen, names_values_of}
-use Rattle.lock_leasing.specs.Configurations.{Configuration, no_grips, point}
-use Rattle.lock_leasing.specs.Waits.{down_at_end}
-use Rattle.lock_leasing.specs.Words.{has_touched}
-use Rattle.std.proofs.Common.{ap, append-nil, arith, cond, refl, sym, ◌∙◌}
-use Rattle.std.proofs.lemmas.Bool.{and_parts, both_ways, eq-eqb, ltb-true}
-use Rattle.std.proofs.lemmas.Grind.{common_steps}
 use Rattle.std.proofs.lemmas.List.Elements.{filter_map-append}
 use Rattle.std.proofs.lemmas.List.Folds.{list_all-append}
-use Rattle.std.proofs.lemmas.List.Sums.{take_while-cons}
-use Rattle.std.proofs.lemmas.Option.{slice_get-get_or}
-use Rattle.std.specs.List.{list_all, list_any}
-use Rattle.std.specs.Option.{option_or}
-use Rattle.std.specs.Prelude.{Bool, IsTrue, List, None, Option, Some, [], count_by, false, find, fold, if◌then◌else◌, is_none, is_some, length, not, option_map, slice_get, suc, take_while, true, unwrap_or, zero, ℕ, ◌&&◌, ◌++◌, ◌+◌, ◌<◌, ◌==◌, ◌||◌, ◌∷◌, ◌≡◌}
 
 -- an entry of such a window: no event, no answer Down, and no doom but for a value that a must `check` found
 abbrev pub calm_entry : Entry → Bool

@@ -1,59 +1,19 @@
 -- What a window has to be that is closed.
-use Rattle.command_rules.specs.Items.{of_run}
-use Rattle.command_rules.specs.Rosters.{command_at, commands_of, device_no, is_run, no_command, run_no, touches}
-use Rattle.history_book.proofs.Cited.{is_abort, shapes, standing}
-use Rattle.history_book.specs.Histories.{entries_of, line_of}
-use Rattle.history_book.specs.Readings.{Reading, passed_by}
-use Rattle.history_book.specs.Settings.{Setting, device_numbers, is_device, run_numbers}
-use Rattle.history_book.specs.WellFormed.{IsWellFormed}
-use Rattle.history_book.specs.declared.entries.Cause.TheVariants.{DownAtEnd, Lost, MustDown, Refuted, Revoked}
-use Rattle.history_book.specs.declared.entries.Cause.{Cause}
-use Rattle.history_book.specs.declared.entries.End.{End}
-use Rattle.history_book.specs.declared.entries.End.TheVariants.{Aborted, Committed}
-use Rattle.history_book.specs.declared.entries.Entry.{Entry}
+use Rattle.hub_core.proofs.Prelude.{Aborted, AgreesAtEnd, Back, Bool, CallsAreAccounted, Cause, Command, Committed, Configuration, ConfigurationIsKept, DownAtEnd, End, Entry, Failed, Fcfs, Found, Grip, GripsFit, IsJustified, IsLegalWindow, IsSeriallyLegal, IsTrue, IsWeaklyLegal, IsWellFormed, Item, LineageState, List, Lost, MustDown, None, NoneIsLive, Option, PlacesAreScheduled, Ran, Reading, Refuted, Revoked, Setting, Some, Stand, TableIsKept, [], access_read, accesses_along, accesses_read, agrees_at_end, all_ended, ap, arith, command_at, commands_of, commits_write, common_steps, device_no, device_numbers, entries_of, fails, false, find, get_or-map, history_of, if◌then◌else◌, is_abort, is_device, is_none, is_out, is_run, is_some, length, length-map, line_of, lineage_at, list_all, list_any, logs_own_events, map, nat_lt, no_command, no_lineage, none_does, none_is_live, not, not_quiet, nowhere, of_run, option_map, option_or, or-true, order_events, order_runs, passed_by, point, point_of, range_with_len, read_facts, read_of, refl, refutes, run_no, run_numbers, shapes, slice_index_or, stand_at, standing, standing_committed, standing_value, subst, suc, sym, touches, true, unwrap_or, uses, value_standing, zero, ℕ, ◌&&◌, ◌+◌, ◌<◌, ◌||◌, ◌∙◌, ◌∷◌, ◌≡◌, ◌≤◌}
 use Rattle.history_book.specs.declared.records.WindowRecord.{WindowRecord}
-use Rattle.home_types.specs.Commands.{fails, refutes}
-use Rattle.home_types.specs.HomeStates.{nowhere, stand_at}
-use Rattle.home_types.specs.declared.commands.Answer.TheVariants.{Found}
-use Rattle.home_types.specs.declared.commands.Command.{Command}
 use Rattle.home_types.specs.declared.commands.Job.TheVariants.{Check, Load, Set, Store}
 use Rattle.home_types.specs.declared.commands.Job.{Job}
-use Rattle.home_types.specs.declared.items.Item.{Item}
-use Rattle.home_types.specs.declared.items.Item.TheVariants.{Back, Failed, Ran}
-use Rattle.home_types.specs.declared.modes.Scheduler.TheVariants.{Fcfs}
-use Rattle.home_types.specs.declared.worlds.Stand.{Stand}
-use Rattle.window_devices.proofs.Cited.{none_does}
 use Rattle.hub_core.proofs.kept.Followed.{committed_behind}
 use Rattle.hub_core.proofs.kept.Sizes.{run_there, run_within}
 use Rattle.hub_core.proofs.windows.CalmHistories.{IsPlain, NoneFailed, dooms_are_refuted, is_plain, is_refuted}
-use Rattle.legal_days.specs.AccountedCalls.{CallsAreAccounted}
 use Rattle.legal_days.specs.Agreement.{AgreesWithSerial}
 use Rattle.legal_days.specs.CleanReads.{ReadsAreClean}
 use Rattle.window_order.specs.Leavings.{stand_left}
-use Rattle.hub_core.specs.HubKept.{ConfigurationIsKept}
 use Rattle.legal_days.specs.Isolation.{IsStrict}
-use Rattle.legal_days.specs.JustifiedAborts.{IsJustified}
-use Rattle.legal_days.specs.LegalWindows.{IsLegalWindow, IsSeriallyLegal, IsWeaklyLegal, all_ended, history_of}
 use Rattle.legal_days.specs.Orders.{IsOrderFor}
 use Rattle.hub_core.specs.MustChecks.{has_must_check, is_check, is_must_check}
-use Rattle.hub_core.specs.Steps.{not_quiet}
 use Rattle.hub_core.specs.declared.refusals.NotQuiet.TheVariants.{StillLive, StillOut}
-use Rattle.lineage_table.specs.Accesses.{value_standing}
-use Rattle.lineage_table.specs.Lineages.{LineageState, lineage_at, no_lineage}
 use Rattle.lineage_table.specs.declared.accesses.Access.{Access}
-use Rattle.lock_leasing.specs.Configurations.{Configuration, Grip, is_out, point, point_of, read_of}
-use Rattle.lock_leasing.specs.Places.{GripsFit, PlacesAreScheduled}
-use Rattle.lock_leasing.specs.Tables.{uses}
-use Rattle.lock_leasing.specs.Words.{standing_value}
-use Rattle.std.proofs.Common.{ap, arith, refl, subst, sym, ◌∙◌}
-use Rattle.std.proofs.Math.Bool.{or-true}
-use Rattle.std.proofs.lemmas.Grind.{common_steps}
-use Rattle.std.proofs.lemmas.List.{get_or-map, length-map}
-use Rattle.std.specs.List.{list_all, list_any, range_with_len}
-use Rattle.std.specs.Option.{option_or}
-use Rattle.std.specs.Prelude.{Bool, IsTrue, List, None, Option, Some, [], false, find, if◌then◌else◌, is_none, is_some, length, map, nat_lt, not, option_map, slice_index_or, suc, true, unwrap_or, zero, ℕ, ◌&&◌, ◌+◌, ◌<◌, ◌||◌, ◌∷◌, ◌≡◌, ◌≤◌}
-use Rattle.window_order.proofs.Cited.{AgreesAtEnd, NoneIsLive, agrees_at_end, logs_own_events, none_is_live, order_events, order_runs, read_facts, standing_committed}
-use Rattle.window_order.specs.TableKept.{TableIsKept, access_read, accesses_along, accesses_read, commits_write}
 
 -- What a quiet window is
 

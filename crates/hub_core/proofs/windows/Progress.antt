@@ -1,48 +1,13 @@
 -- Where no device is out and a run has not ended, some run goes on.
-use Rattle.command_rules.specs.Rosters.{device_no, followed_by, is_run, reads_first, run_no}
-use Rattle.history_book.proofs.Cited.{Shaped, none_is, shapes, standing}
-use Rattle.history_book.specs.Histories.{entries_of}
-use Rattle.history_book.specs.Lines.{split_at}
-use Rattle.history_book.specs.Readings.{PlacedAt, Reading, is_live, next_command, next_of, sees_down}
-use Rattle.history_book.specs.Settings.{Setting, device_numbers, devices_of, is_weak, run_numbers, scheduler_of}
-use Rattle.history_book.specs.declared.entries.Cause.TheVariants.{DownAtEnd}
-use Rattle.history_book.specs.declared.entries.Cause.{Cause}
-use Rattle.history_book.specs.declared.entries.End.{End}
-use Rattle.history_book.specs.declared.entries.End.TheVariants.{Committed}
-use Rattle.history_book.specs.declared.entries.Entry.TheVariants.{Arrived, Doomed, Ended, Undid}
-use Rattle.home_types.specs.Commands.{holds}
-use Rattle.home_types.specs.declared.commands.Command.{Command}
-use Rattle.home_types.specs.declared.items.Item.{Item}
-use Rattle.home_types.specs.declared.items.Item.TheVariants.{Back, Failed, Ran}
-use Rattle.home_types.specs.declared.modes.Scheduler.TheVariants.{Fcfs, JustInTime, Timeline}
-use Rattle.home_types.specs.declared.modes.Scheduler.{Scheduler}
-use Rattle.home_types.specs.declared.numbers.RunNo.{RunNo}
-use Rattle.window_devices.proofs.Cited.{find_least, none_does, none_found, not_none}
+use Rattle.hub_core.proofs.Prelude.{Absent, Arrived, At, Back, Bool, Cause, Choice, Command, Commands, Committed, Configuration, ConfigurationIsKept, Denial, DeniedBy, Doomed, DownAtEnd, End, Ended, Failed, Fcfs, Grips, HandsOut, IsTrue, Item, JustInTime, List, Moves, None, NoneIsLive, Option, Over, PlacedAt, Placing, Ran, Reading, RunNo, Scheduler, Setting, Shaped, Some, Timeline, Undid, Undoes, Waits, [], aborts, and-false, answers_down, ap, arith, at_end, behind_wait, both_ways, busy_case, busy_wait, choice_of, command_cases, common_steps, cond, cons_option, decide, decide_answered, decide_arrived, decide_command, decide_doomed, denied_by, device_no, device_numbers, devices_of, dirty_wait, down_at_end, down_case, down_entries, effective_writer_of, entries_of, false, find, find_least, first_case, first_live, first_place, first_some, follow_wait, followed_by, grip_wait, has_grip, holds, holds_device, if◌then◌else◌, is_live, is_none, is_out, is_overdue, is_run, is_some, is_wait, is_weak, just_in_time, length, live_before, live_runs, max, nat_le, nat_lt, next_command, next_of, next_undo_of, none_does, none_found, none_is, not, not_none, only_if, option_map, option_or, patience, place_choice, point, read_of, reads_first, refl, run_no, run_numbers, scheduled_place, scheduler_of, sees_down, shapes, skip_entries, split_at, standing, strict_wait, sym, take, timeline, true, undo_cases, undo_choice, unwrap_or, value_without, waits_for_none, ℕ, ◌&&◌, ◌+◌, ◌<◌, ◌==◌, ◌||◌, ◌∙◌, ◌∷◌, ◌≡◌, ◌≤◌}
 use Rattle.hub_core.proofs.kept.Sizes.{run_there, run_within}
 use Rattle.hub_core.proofs.windows.StrongChoices.{command_current, live_stands}
 use Rattle.hub_core.proofs.steps.Causes.{never_strict}
 use Rattle.hub_core.proofs.steps.Choices.{by_map, by_test}
 use Rattle.hub_core.proofs.steps.Takes.{live_run}
 use Rattle.hub_core.specs.Decisions.{skipped_command, strong_command, unbarred_command}
-use Rattle.hub_core.specs.BlockedRuns.{is_wait}
-use Rattle.hub_core.specs.HubKept.{ConfigurationIsKept}
-use Rattle.hub_core.specs.Steps.{Absent, Choice, HandsOut, Moves, Over, Waits, aborts, answers_down, busy_case, choice_of, command_cases, decide, decide_answered, decide_arrived, decide_command, decide_doomed, down_case, down_entries, first_case, only_if, place_choice, skip_entries, undo_cases, undo_choice}
 use Rattle.hub_core.specs.declared.waits.Why.TheVariants.{Behind, Busy, Dirty, Follow, Strict}
-use Rattle.lock_leasing.proofs.Cited.{first_live, waits_for_none}
-use Rattle.lock_leasing.specs.Configurations.{Configuration, Grips, has_grip, is_out, point, read_of}
-use Rattle.lock_leasing.specs.declared.purposes.Purpose.TheVariants.{Commands, Undoes}
 use Rattle.lock_leasing.specs.FirstRuns.{IsFirstLive, WaitsForNone}
-use Rattle.lock_leasing.specs.Places.{At, Denial, DeniedBy, Placing, at_end, denied_by, first_place, first_some, just_in_time, patience, scheduled_place, timeline}
-use Rattle.lock_leasing.specs.Waits.{behind_wait, busy_wait, dirty_wait, down_at_end, follow_wait, grip_wait, strict_wait}
-use Rattle.lock_leasing.specs.Words.{effective_writer_of, holds_device, is_overdue, live_before, live_runs, next_undo_of, value_without}
-use Rattle.std.proofs.Common.{ap, arith, cond, refl, sym, ◌∙◌}
-use Rattle.std.proofs.Math.Bool.{and-false}
-use Rattle.std.proofs.lemmas.Bool.{both_ways}
-use Rattle.std.proofs.lemmas.Grind.{common_steps}
-use Rattle.std.specs.List.{cons_option}
-use Rattle.std.specs.Option.{option_or}
-use Rattle.std.specs.Prelude.{Bool, IsTrue, List, None, Option, Some, [], false, find, if◌then◌else◌, is_none, is_some, length, max, nat_le, nat_lt, not, option_map, take, true, unwrap_or, ℕ, ◌&&◌, ◌+◌, ◌<◌, ◌==◌, ◌||◌, ◌∷◌, ◌≡◌, ◌≤◌}
-use Rattle.window_order.proofs.Cited.{NoneIsLive}
 
 -- Where no run is live
 

@@ -1,39 +1,9 @@
 -- The step of a run in a model with an order, and where no lease is overdue.
-use Rattle.command_rules.specs.Items.{is_ran}
-use Rattle.command_rules.specs.Rosters.{commands_of, run_no}
-use Rattle.history_book.proofs.Cited.{Each, Standing, is_abort, standing}
-use Rattle.history_book.specs.Gaps.{line_for}
-use Rattle.history_book.specs.Histories.{entries_of}
-use Rattle.history_book.specs.Lines.{before}
-use Rattle.history_book.specs.Readings.{PlacedAt, Reading, is_live}
+use Rattle.hub_core.proofs.Prelude.{Back, Bool, Cause, Command, Commands, Configuration, ConfigurationIsKept, Doomed, Each, End, Failed, Fcfs, HandsOut, IsClear, IsTrue, Item, List, Moves, None, Option, PlacedAt, Point, Ran, Reading, Revoked, Setting, Some, Standing, [], aborts, ap, arith, before, command_cases, commands_of, common_steps, cond, cons_option, decide_command, decide_doomed, entries_of, false, find, first_case, follow_wait, holds, if◌then◌else◌, in_order, is_abort, is_device, is_live, is_none, is_overdue, is_placed_later, is_ran, is_some, is_weak, kind_at, lease_deadline, length, line_for, list_all, list_any, live_before, live_runs, names_values_of, nat_lt, not, option_map, overdue_for, placed_in_order, point, point_of, read_of, refl, run_no, scheduler_of, slice_get, stamp_of, standing, subst, suc, sym, take, take_while-cons, true, undo_cases, unwrap_or, ℕ, ◌&&◌, ◌==◌, ◌∙◌, ◌∷◌, ◌≡◌, ◌≤◌}
 use Rattle.history_book.specs.Sealed.{sealed_in}
-use Rattle.history_book.specs.Settings.{Setting, is_device, is_weak, scheduler_of}
-use Rattle.history_book.specs.declared.entries.Cause.{Cause}
-use Rattle.history_book.specs.declared.entries.Cause.TheVariants.{Revoked}
-use Rattle.history_book.specs.declared.entries.End.{End}
-use Rattle.history_book.specs.declared.entries.Entry.TheVariants.{Doomed}
-use Rattle.home_types.specs.Commands.{holds}
-use Rattle.home_types.specs.Kinds.{kind_at}
-use Rattle.home_types.specs.declared.commands.Command.{Command}
-use Rattle.home_types.specs.declared.items.Item.{Item}
-use Rattle.home_types.specs.declared.items.Item.TheVariants.{Back, Failed, Ran}
-use Rattle.home_types.specs.declared.modes.Scheduler.TheVariants.{Fcfs}
 use Rattle.hub_core.proofs.steps.Causes.{each_is}
-use Rattle.hub_core.specs.HubKept.{ConfigurationIsKept, is_placed_later, placed_in_order}
-use Rattle.hub_core.specs.Openings.{names_values_of}
 use Rattle.hub_core.specs.Decisions.{current_command, skipped_command, strong_command, strong_doomed}
-use Rattle.hub_core.specs.Steps.{HandsOut, Moves, aborts, command_cases, decide_command, decide_doomed, first_case, undo_cases}
-use Rattle.lock_leasing.specs.Configurations.{Configuration, Point, point, point_of, read_of}
-use Rattle.lock_leasing.specs.declared.purposes.Purpose.TheVariants.{Commands}
 use Rattle.lock_leasing.specs.Leases.{NeverOverdue}
-use Rattle.lock_leasing.specs.Places.{IsClear, in_order}
-use Rattle.lock_leasing.specs.Waits.{follow_wait}
-use Rattle.lock_leasing.specs.Words.{is_overdue, lease_deadline, live_before, live_runs, overdue_for, stamp_of}
-use Rattle.std.proofs.Common.{ap, arith, cond, refl, subst, sym, ◌∙◌}
-use Rattle.std.proofs.lemmas.Grind.{common_steps}
-use Rattle.std.proofs.lemmas.List.Sums.{take_while-cons}
-use Rattle.std.specs.List.{cons_option, list_all, list_any}
-use Rattle.std.specs.Prelude.{Bool, IsTrue, List, None, Option, Some, [], false, find, if◌then◌else◌, is_none, is_some, length, nat_lt, not, option_map, slice_get, suc, take, true, unwrap_or, ℕ, ◌&&◌, ◌==◌, ◌∷◌, ◌≡◌, ◌≤◌}
 
 -- Two choices by cases that differ behind a case are the same where they are so when the case is past
 

@@ -1,7 +1,6 @@
 use Rattle.abort_rollback.proofs.NextUndos.{not_before, not_through, undo_here, undo_nowhere}
 use Rattle.abort_rollback.proofs.undos.next_undo.Goals as goal
-use Rattle.abort_rollback.specs.Undos.{has_effective_write}
-use Rattle.std.proofs.Common.{arith, false, rules, sym, true, ◌+◌, ◌∙◌, ◌≡◌}
+use Rattle.abort_rollback.proofs.Prelude.{arith, false, has_effective_write, rules, sym, true, ◌+◌, ◌∙◌, ◌≡◌}
 
 pub returns-then-eq : goal.returns-then-eq
 returns-then-eq c =

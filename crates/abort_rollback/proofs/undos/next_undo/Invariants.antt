@@ -1,6 +1,5 @@
 use Rattle.abort_rollback.proofs.undos.next_undo.Given as goal
-use Rattle.abort_rollback.specs.Undos.{has_effective_write}
-use Rattle.std.proofs.Common.{false, length, ℕ, ◌-◌, ◌<◌, ◌≡◌}
+use Rattle.abort_rollback.proofs.Prelude.{false, has_effective_write, length, ℕ, ◌-◌, ◌<◌, ◌≡◌}
 
 -- on no device so far has the run the effective write
 abbrev pub invariant-devices : goal.invariant-devices

@@ -1,9 +1,6 @@
 use Rattle.abort_rollback.proofs.NextUndos.{nothing_effective}
 use Rattle.abort_rollback.proofs.withdrawals.withdraw.Goals as goal
-use Rattle.lineage_table.proofs.Cited.{changed_all, changed_more, changed_none, not_writer, removes_nothing, without_stands}
-use Rattle.lineage_table.specs.Lineages.{accesses_at, lineage_at, removed, stand_of_lineage}
-use Rattle.lineage_table.specs.Accesses.{effective_writer}
-use Rattle.std.proofs.Common.{ap, ◌∙◌}
+use Rattle.abort_rollback.proofs.Prelude.{accesses_at, ap, changed_all, changed_more, changed_none, effective_writer, lineage_at, not_writer, removed, removes_nothing, stand_of_lineage, without_stands, ◌∙◌}
 
 pub devices-init : goal.devices-init
 devices-init c = changed_none (λ d. removed c.args.r.0) c.args.table.now

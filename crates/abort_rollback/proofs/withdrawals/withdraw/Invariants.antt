@@ -1,7 +1,5 @@
 use Rattle.abort_rollback.proofs.withdrawals.withdraw.Given as goal
-use Rattle.lineage_table.proofs.Cited.{ChangedUpTo}
-use Rattle.lineage_table.specs.Lineages.{removed}
-use Rattle.std.proofs.Common.{length, ◌-◌}
+use Rattle.abort_rollback.proofs.Prelude.{ChangedUpTo, length, removed, ◌-◌}
 
 -- the run is gone from the devices up to here, and from no other
 abbrev pub invariant-devices : goal.invariant-devices

@@ -1,9 +1,7 @@
 use Rattle.blocked_runs.proofs.run_bits.bit_of.Goals as goal
 use Rattle.blocked_runs.proofs.RunBits.{only_run}
-use Rattle.std.proofs.Common.{arith}
-use Rattle.std.proofs.lemmas.Grind.{common_steps}
+use Rattle.blocked_runs.proofs.Prelude.{arith, common_steps, ◌-◌, ◌<◌}
 use Rattle.std.proofs.lemmas.Nat.{one_shl}
-use Rattle.std.specs.Prelude.{◌-◌, ◌<◌}
 
 pub returns-then-r-le64-clause-only : goal.returns-then-r-le64-clause-only
 returns-then-r-le64-clause-only c =

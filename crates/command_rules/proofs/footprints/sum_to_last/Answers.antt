@@ -1,7 +1,7 @@
 use Rattle.command_rules.proofs.LastSums.{sum_or-off, sum_or-on, sum_or-start}
 use Rattle.command_rules.proofs.footprints.sum_to_last.Goals as goal
 use Rattle.command_rules.proofs.footprints.sum_to_last.Goals.{else-eq, then-eq}
-use Rattle.std.proofs.Common.{arith, sym, ◌∙◌}
+use Rattle.command_rules.proofs.Prelude.{arith, sym, ◌∙◌}
 
 pub commands-init : goal.commands-init
 commands-init c = (sum_or-start c.args.d.0 c.args.commands.now, omega arith)

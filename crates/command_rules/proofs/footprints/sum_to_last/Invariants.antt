@@ -1,7 +1,6 @@
 use Rattle.command_rules.proofs.LastSums.{sum_or}
 use Rattle.command_rules.proofs.footprints.sum_to_last.Given as goal
-use Rattle.command_rules.specs.Rosters.{estimate_to_last}
-use Rattle.std.proofs.Common.{drop, ◌*◌, ◌≡◌, ◌≤◌}
+use Rattle.command_rules.proofs.Prelude.{drop, estimate_to_last, ◌*◌, ◌≡◌, ◌≤◌}
 
 abbrev pub invariant-commands : goal.invariant-commands
 invariant-commands l =

@@ -2,9 +2,8 @@ use Rattle.command_rules.proofs.FirstUses.{uses_guarded_write, uses_none, uses_r
 use Rattle.command_rules.proofs.FootprintBits.{covers_none, low_device, passed_known, passed_new}
 use Rattle.command_rules.proofs.indexed_rosters.footprint_of.Goals as goal
 use Rattle.command_rules.proofs.indexed_rosters.footprint_of.Goals.{else-is_always, else-not-has, else-reads, then-is_always, then-not-has, then-reads}
-use Rattle.std.proofs.Common.{arith, refl, sym, ◌∙◌}
+use Rattle.command_rules.proofs.Prelude.{arith, length, refl, sym, ◌-◌, ◌<◌, ◌∙◌}
 use Rattle.std.proofs.lemmas.Nat.{one_shl}
-use Rattle.std.specs.Prelude.{length, ◌-◌, ◌<◌}
 
 pub commands-init : goal.commands-init
 commands-init c = (refl, rw c.none-devices.ensures (covers_none c.args.commands.now), rw (c.none-first_reads.ensures, c.none-written.ensures) (uses_none c.args.commands.now))

@@ -1,7 +1,7 @@
 use Rattle.command_rules.proofs.FirstUses.{CoversUses}
 use Rattle.command_rules.proofs.FootprintBits.{Covers}
 use Rattle.command_rules.proofs.indexed_rosters.footprint_of.Given as goal
-use Rattle.std.specs.Prelude.{length, ◌-◌, ◌≡◌}
+use Rattle.command_rules.proofs.Prelude.{length, ◌-◌, ◌≡◌}
 
 -- the commands passed so far are covered
 abbrev pub invariant-commands : goal.invariant-commands

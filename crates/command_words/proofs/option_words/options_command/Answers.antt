@@ -1,7 +1,4 @@
-use Rattle.std.proofs.Common.{rules, ap₂, ◌≡◌, ◌∙◌, []}
-use Rattle.clap.specs.Words.{app_of, rule_of, with_rule}
-use Rattle.clap.specs.Simple.{App}
-use Rattle.command_words.specs.OptionWords.{model_rule, scheduler_rule, trace_rule, bare_shape}
+use Rattle.command_words.proofs.Prelude.{App, [], app_of, ap₂, bare_shape, model_rule, rule_of, rules, scheduler_rule, trace_rule, with_rule, ◌∙◌, ◌≡◌}
 use Rattle.command_words.proofs.option_words.options_command.Goals as goal
 
 pub returns : goal.returns

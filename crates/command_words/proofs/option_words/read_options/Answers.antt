@@ -1,7 +1,7 @@
 use Rattle.command_words.proofs.OptionLaw.{options_are_by_words}
 use Rattle.command_words.proofs.OptionLemmas.{marked, unmarked}
 use Rattle.command_words.proofs.option_words.read_options.Goals as goal
-use Rattle.std.proofs.Common.{IfOk, Some, map, rules, string_bytes, subst, sym, ◌≡◌, ◌∙◌}
+use Rattle.command_words.proofs.Prelude.{IfOk, Some, map, rules, string_bytes, subst, sym, ◌∙◌, ◌≡◌}
 
 pub returns-then-has_end_mark-clause-refused : goal.returns-then-has_end_mark-clause-refused
 returns-then-has_end_mark-clause-refused c = λ _.

@@ -1,10 +1,4 @@
-use Rattle.std.proofs.Common.{rules, ◌≡◌, ◌∙◌, sym, ap, subst, inl, inr, map, string_bytes, []}
-use Rattle.clap.specs.Words.{app_of, found_of, kind_of}
-use Rattle.clap.specs.Kinds.{HasKind}
-use Rattle.clap.specs.declared.error.kind.ErrorKind.TheVariants.{OutOfMemory}
-use Rattle.clap.specs.Simple.{is_simple, matches_of}
-use Rattle.clap.specs.Faults.{fault_of, is_simple_and_free}
-use Rattle.command_words.specs.OptionWords.{options_app}
+use Rattle.command_words.proofs.Prelude.{HasKind, OutOfMemory, [], ap, app_of, fault_of, found_of, inl, inr, is_simple, is_simple_and_free, kind_of, map, matches_of, options_app, rules, string_bytes, subst, sym, ◌∙◌, ◌≡◌}
 use Rattle.command_words.proofs.OptionLemmas.{options-simple, options-free, options-refused, options-taken}
 use Rattle.command_words.proofs.option_words.read_with_clap.Goals as goal
 

@@ -1,7 +1,7 @@
 use Rattle.command_words.proofs.CommandLineLemmas.{keep_means, replay_means, run_means, watch_means}
 use Rattle.command_words.proofs.readers.read_words.Goals as goal
 use Rattle.command_words.specs.declared.command_lines.WordFault.TheVariants.{Words}
-use Rattle.std.proofs.Common.{Err, None, Some, rules, string_bytes, ◌≡◌}
+use Rattle.command_words.proofs.Prelude.{Err, None, Some, rules, string_bytes, ◌≡◌}
 
 pub returns-in_err-read_options-in-run-clause-refused :
     goal.returns-in_err-read_options-in-run-clause-refused

@@ -1,7 +1,6 @@
 use Rattle.command_words.proofs.TrialLemmas.{number_refused, number_taken}
 use Rattle.command_words.proofs.trial_numbers.read_number.Goals as goal
-use Rattle.command_words.specs.TrialNumbers.{is_short_numeral}
-use Rattle.std.proofs.Common.{rules, true, ◌≡◌, ◌≤◌}
+use Rattle.command_words.proofs.Prelude.{is_short_numeral, rules, true, ◌≡◌, ◌≤◌}
 
 pub returns-in-Ok : goal.returns-in-Ok
 returns-in-Ok c =

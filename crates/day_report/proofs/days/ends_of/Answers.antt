@@ -1,8 +1,6 @@
 use Rattle.day_report.proofs.Counts.{abort_count-take, commit_count-take, no_aborts, no_commits}
 use Rattle.day_report.proofs.days.ends_of.Goals as goal
-use Rattle.day_report.specs.Days.{is_abort, is_commit}
-use Rattle.std.proofs.Common.{arith, sym, ap, ◌≡◌, ◌+◌, ◌∙◌}
-use Rattle.std.specs.List.{count_by}
+use Rattle.day_report.proofs.Prelude.{ap, arith, count_by, is_abort, is_commit, sym, ◌+◌, ◌∙◌, ◌≡◌}
 
 pub windows-init : goal.windows-init
 windows-init c = record { committed = sym no_commits; aborted = sym no_aborts; few_commits = omega arith; few_aborts = omega arith }

@@ -1,6 +1,5 @@
 use Rattle.day_report.proofs.days.ends_of.Given as goal
-use Rattle.day_report.specs.Days.{abort_count, commit_count}
-use Rattle.std.proofs.Common.{take, ◌*◌, ◌^◌, ◌≡◌, ◌≤◌}
+use Rattle.day_report.proofs.Prelude.{abort_count, commit_count, take, ◌*◌, ◌^◌, ◌≡◌, ◌≤◌}
 
 -- the counts of the windows so far; a window has fewer than 2^64 entries
 abbrev pub invariant-windows : goal.invariant-windows

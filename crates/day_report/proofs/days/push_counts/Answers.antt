@@ -1,8 +1,6 @@
 use Rattle.day_report.proofs.days.push_counts.Goals as goal
-use Rattle.std.proofs.Common.{string_bytes, ℕ, ◌+◌, ◌++◌, ◌≡◌, ◌∙◌, List, ap, codes}
-use Rattle.std.proofs.lemmas.List.{append_assoc}
+use Rattle.day_report.proofs.Prelude.{List, ap, append_assoc, codes, decimal, string_bytes, ℕ, ◌++◌, ◌+◌, ◌∙◌, ◌≡◌}
 use Rattle.std.proofs.lemmas.Result.{on_ok_weaker}
-use Rattle.std.specs.Fmt.{decimal}
 
 -- the pieces, as they are written, are the line
 line_is : (windows runs committed aborted : List ℕ) →

@@ -1,6 +1,5 @@
 use Rattle.day_report.proofs.lines.push_answers.Given as goal
-use Rattle.day_report.specs.Lines.{answer_words}
-use Rattle.std.proofs.Common.{string_bytes, take, ◌++◌, ◌≡◌}
+use Rattle.day_report.proofs.Prelude.{answer_words, string_bytes, take, ◌++◌, ◌≡◌}
 
 -- the text has grown by the entries so far
 abbrev pub invariant-entries : goal.invariant-entries

@@ -1,7 +1,5 @@
 use Rattle.day_report.proofs.lines.push_items.Given as goal
-use Rattle.day_report.specs.Lines.{item_word}
-use Rattle.std.proofs.Common.{string_bytes, take, ◌++◌, ◌≡◌}
-use Rattle.std.specs.List.{flat_map}
+use Rattle.day_report.proofs.Prelude.{flat_map, item_word, string_bytes, take, ◌++◌, ◌≡◌}
 
 -- the text has grown by the items so far
 abbrev pub invariant-items : goal.invariant-items

@@ -1,9 +1,7 @@
 use Rattle.day_report.proofs.Growing.{one_numbered_piece_more}
 use Rattle.day_report.proofs.RunParts.{run_line-of_part}
 use Rattle.day_report.proofs.lines.push_runs.Goals as goal
-use Rattle.day_report.specs.Lines.{line_of_run}
-use Rattle.std.proofs.Common.{None, ap, arith, get_or, string_bytes, ◌++◌, ◌+◌, ◌∙◌}
-use Rattle.std.proofs.lemmas.List.{get_or_default}
+use Rattle.day_report.proofs.Prelude.{None, ap, arith, get_or, get_or_default, line_of_run, string_bytes, ◌++◌, ◌+◌, ◌∙◌}
 
 pub runs-preserved : goal.runs-preserved
 runs-preserved c =

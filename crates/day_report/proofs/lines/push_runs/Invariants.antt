@@ -1,7 +1,5 @@
 use Rattle.day_report.proofs.lines.push_runs.Given as goal
-use Rattle.day_report.specs.Lines.{line_of_run}
-use Rattle.std.proofs.Common.{string_bytes, take, ◌++◌, ◌≡◌}
-use Rattle.std.specs.List.{enumerate_from, flat_map}
+use Rattle.day_report.proofs.Prelude.{enumerate_from, flat_map, line_of_run, string_bytes, take, ◌++◌, ◌≡◌}
 
 -- the text has grown by the lines of the runs so far
 abbrev pub invariant-runs : goal.invariant-runs

@@ -1,9 +1,6 @@
 use Rattle.day_report.proofs.Growing.{one_numbered_piece_more}
 use Rattle.day_report.proofs.lines.push_stands.Goals as goal
-use Rattle.day_report.specs.Lines.{home_word}
-use Rattle.home_types.specs.HomeStates.{stand_at}
-use Rattle.std.specs.List.{enumerate_from, flat_map}
-use Rattle.std.proofs.Common.{take, arith, string_bytes, ap, ◌++◌, ◌∙◌}
+use Rattle.day_report.proofs.Prelude.{ap, arith, enumerate_from, flat_map, home_word, stand_at, string_bytes, take, ◌++◌, ◌∙◌}
 
 pub devices-preserved : goal.devices-preserved
 devices-preserved c =

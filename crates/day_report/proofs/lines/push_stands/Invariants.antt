@@ -1,8 +1,5 @@
 use Rattle.day_report.proofs.lines.push_stands.Given as goal
-use Rattle.day_report.specs.Lines.{home_word}
-use Rattle.home_types.specs.HomeStates.{stand_at}
-use Rattle.std.proofs.Common.{string_bytes, take, ◌++◌, ◌≡◌}
-use Rattle.std.specs.List.{enumerate_from, flat_map}
+use Rattle.day_report.proofs.Prelude.{enumerate_from, flat_map, home_word, stand_at, string_bytes, take, ◌++◌, ◌≡◌}
 
 -- the text has grown by the devices so far
 abbrev pub invariant-devices : goal.invariant-devices

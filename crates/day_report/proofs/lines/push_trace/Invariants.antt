@@ -1,6 +1,5 @@
 use Rattle.day_report.proofs.lines.push_trace.Given as goal
-use Rattle.day_report.specs.Lines.{trace_lines}
-use Rattle.std.proofs.Common.{string_bytes, take, ◌++◌, ◌≡◌}
+use Rattle.day_report.proofs.Prelude.{string_bytes, take, trace_lines, ◌++◌, ◌≡◌}
 
 -- the text has grown by the entries so far
 abbrev pub invariant-entries : goal.invariant-entries

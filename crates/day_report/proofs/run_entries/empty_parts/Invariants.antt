@@ -1,6 +1,5 @@
 use Rattle.day_report.proofs.run_entries.empty_parts.Given as goal
-use Rattle.day_report.specs.RunEntries.{AreApart}
-use Rattle.std.proofs.Common.{[], length, ◌≡◌, ◌≤◌}
+use Rattle.day_report.proofs.Prelude.{AreApart, [], length, ◌≡◌, ◌≤◌}
 
 -- a part with nothing in it for each run so far
 abbrev pub invariant-runs : goal.invariant-runs

@@ -1,7 +1,5 @@
 use Rattle.day_report.proofs.run_entries.entries_by_run.Goals as goal
-use Rattle.day_report.specs.RunEntries.{AreApart}
-use Rattle.std.proofs.Common.{subst, sym, take, ◌∙◌}
-use Rattle.std.proofs.lemmas.List.{take_more}
+use Rattle.day_report.proofs.Prelude.{AreApart, subst, sym, take, take_more, ◌∙◌}
 
 pub entries-preserved : goal.entries-preserved
 entries-preserved c =

@@ -1,6 +1,5 @@
 use Rattle.day_report.proofs.run_entries.entries_by_run.Given as goal
-use Rattle.day_report.specs.RunEntries.{AreApart}
-use Rattle.std.proofs.Common.{length, take, ◌≡◌}
+use Rattle.day_report.proofs.Prelude.{AreApart, length, take, ◌≡◌}
 
 -- the entries so far stand with their runs
 abbrev pub invariant-entries : goal.invariant-entries

@@ -1,10 +1,6 @@
 use Rattle.failure_serialization.proofs.RuledEvents.{event_of, loss_of}
 use Rattle.failure_serialization.proofs.events.device_failed.Goals as goal
-use Rattle.home_types.specs.declared.items.Item.TheVariants.{Failed}
-use Rattle.lineage_table.specs.Lineages.{accesses_at}
-use Rattle.failure_serialization.specs.Events.{event_place}
-use Rattle.serial_line.specs.Marks.{with_item}
-use Rattle.std.proofs.Common.{rules, ◌≡◌}
+use Rattle.failure_serialization.proofs.Prelude.{Failed, accesses_at, event_place, rules, with_item, ◌≡◌}
 
 pub returns-clause-placed : goal.returns-clause-placed
 returns-clause-placed c =

@@ -1,9 +1,6 @@
 use Rattle.failure_serialization.proofs.FirstAccesses.{first_of_all}
 use Rattle.failure_serialization.proofs.losses.lost_run.Goals as goal
-use Rattle.failure_serialization.specs.Events.{is_lost}
-use Rattle.lineage_table.specs.Accesses.{first_before}
-use Rattle.lineage_table.specs.Lineages.{accesses_at}
-use Rattle.std.proofs.Common.{rules, ◌∙◌, ◌≡◌}
+use Rattle.failure_serialization.proofs.Prelude.{accesses_at, first_before, is_lost, rules, ◌∙◌, ◌≡◌}
 
 pub returns : goal.returns
 returns c =

@@ -1,8 +1,6 @@
 use Rattle.failure_serialization.proofs.Unsealed.{event_unsealed}
 use Rattle.failure_serialization.proofs.places.event_place.Goals as goal
-use Rattle.failure_serialization.specs.Events.{event_place}
-use Rattle.lineage_table.specs.Lineages.{accesses_at}
-use Rattle.std.proofs.Common.{arith, rules, ◌≡◌}
+use Rattle.failure_serialization.proofs.Prelude.{accesses_at, arith, event_place, rules, ◌≡◌}
 
 pub returns-in-Some-clause-unsealed : goal.returns-in-Some-clause-unsealed
 returns-in-Some-clause-unsealed c =

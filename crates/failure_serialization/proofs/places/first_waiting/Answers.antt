@@ -1,9 +1,6 @@
 use Rattle.failure_serialization.proofs.FirstAccesses.{first_of_all}
 use Rattle.failure_serialization.proofs.places.first_waiting.Goals as goal
-use Rattle.failure_serialization.specs.Events.{waits}
-use Rattle.lineage_table.specs.Accesses.{first_before}
-use Rattle.lineage_table.specs.Lineages.{accesses_at}
-use Rattle.std.proofs.Common.{rules, ◌∙◌, ◌≡◌}
+use Rattle.failure_serialization.proofs.Prelude.{accesses_at, first_before, rules, waits, ◌∙◌, ◌≡◌}
 
 pub returns : goal.returns
 returns c =

@@ -1,9 +1,7 @@
 use Rattle.history_book.proofs.KnownRuns.{answered_low, read_one}
 use Rattle.history_book.proofs.progress.read_anew.Goals as goal
 use Rattle.history_book.proofs.progress.read_anew.Goals.{else-tells_of, then-tells_of}
-use Rattle.std.proofs.Common.{ap, arith, length, refl, sym, take, ◌∙◌, ◌≤◌}
-use Rattle.std.proofs.lemmas.Grind.{common_steps}
-use Rattle.std.specs.Prelude.{false, true}
+use Rattle.history_book.proofs.Prelude.{ap, arith, common_steps, false, length, refl, sym, take, true, ◌∙◌, ◌≤◌}
 
 pub note-requires : goal.note-requires
 note-requires c =

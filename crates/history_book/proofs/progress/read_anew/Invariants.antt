@@ -1,6 +1,5 @@
 use Rattle.history_book.proofs.progress.read_anew.Given as goal
-use Rattle.history_book.specs.Progress.{progress_in}
-use Rattle.std.specs.Prelude.{take, ◌≡◌}
+use Rattle.history_book.proofs.Prelude.{progress_in, take, ◌≡◌}
 
 -- the entries before this one are read
 abbrev pub invariant-entries : goal.invariant-entries

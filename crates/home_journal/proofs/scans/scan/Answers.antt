@@ -1,6 +1,6 @@
 use Rattle.home_journal.proofs.Scanning.{ends_all, ends_short, ends_shut, scan_bad, scan_first, scan_next, to_shut_missing, to_shut_open}
 use Rattle.home_journal.proofs.scans.scan.Goals as goal
-use Rattle.std.proofs.Common.{arith, get_or, refl, rules, true, ◌<◌, ◌≡◌, ◌≢◌}
+use Rattle.home_journal.proofs.Prelude.{arith, get_or, refl, rules, true, ◌<◌, ◌≡◌, ◌≢◌}
 
 pub slots-init : goal.slots-init
 slots-init c = (scan_first _ _ _ _, c.requires.blank)

@@ -1,6 +1,6 @@
 use Rattle.home_journal.proofs.Scanning.{IsScannedTo}
 use Rattle.home_journal.proofs.scans.scan.Given as goal
-use Rattle.std.proofs.Common.{length, ◌≡◌}
+use Rattle.home_journal.proofs.Prelude.{length, ◌≡◌}
 
 abbrev pub invariant-slots : goal.invariant-slots
 invariant-slots l =

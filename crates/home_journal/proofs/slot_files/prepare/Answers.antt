@@ -2,9 +2,7 @@ use Rattle.home_journal.proofs.KeptKinds.{last_of_kinds}
 use Rattle.home_journal.proofs.Keeping.{knows_same, same_states}
 use Rattle.home_journal.proofs.Scanning.{found_whole, open_front}
 use Rattle.home_journal.proofs.slot_files.prepare.Goals as goal
-use Rattle.home_journal.specs.KeptStates.{kept_states}
-use Rattle.home_journal.specs.SlotFiles.{IsFound}
-use Rattle.std.proofs.Common.{ap, length, subst, sym, ◌∙◌}
+use Rattle.home_journal.proofs.Prelude.{IsFound, ap, kept_states, length, subst, sym, ◌∙◌}
 
 pub shut_gate-requires-clause-found : goal.shut_gate-requires-clause-found
 shut_gate-requires-clause-found g c told =

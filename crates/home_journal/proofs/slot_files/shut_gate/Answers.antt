@@ -3,8 +3,7 @@ use Rattle.home_journal.proofs.Moments.{weaker}
 use Rattle.home_journal.proofs.OpenSlots.{both_ok}
 use Rattle.home_journal.proofs.slot_files.shut_gate.Goals as goal
 use Rattle.home_journal.proofs.slot_files.shut_gate.Goals.{then-found-via-else-found+then-found-layout, then-found-via-then-found}
-use Rattle.home_journal.specs.Disks.{Holds, Torn}
-use Rattle.std.proofs.Common.{[], arith, inl, inr, subst, ◌<◌, ◌∷◌}
+use Rattle.home_journal.proofs.Prelude.{Holds, Torn, [], arith, inl, inr, subst, ◌<◌, ◌∷◌}
 
 pub write_synced-requires-clause-at : goal.write_synced-requires-clause-at
 write_synced-requires-clause-at g c told =

@@ -3,9 +3,7 @@ use Rattle.home_journal.proofs.OpenSlots.{at_gate, at_staged, both_ok, ends_sett
 use Rattle.home_journal.proofs.StateBytes.{state_size}
 use Rattle.home_journal.proofs.WrittenSlots.{slot_written}
 use Rattle.home_journal.proofs.slot_files.write_slot.Goals as goal
-use Rattle.home_journal.specs.SlotFiles.{IsBeforeOrAfter}
-use Rattle.home_journal.specs.Slots.{open_slots, state_bytes}
-use Rattle.std.proofs.Common.{arith, sym, ◌*◌, ◌+◌, ◌∙◌}
+use Rattle.home_journal.proofs.Prelude.{IsBeforeOrAfter, arith, open_slots, state_bytes, sym, ◌*◌, ◌+◌, ◌∙◌}
 
 pub write_synced-requires-clause-at : goal.write_synced-requires-clause-at
 write_synced-requires-clause-at g c told =

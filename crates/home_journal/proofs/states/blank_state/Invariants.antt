@@ -1,5 +1,5 @@
 use Rattle.home_journal.proofs.states.blank_state.Given as goal
-use Rattle.std.proofs.Common.{length, ◌-◌, ◌≤◌}
+use Rattle.home_journal.proofs.Prelude.{length, ◌-◌, ◌≤◌}
 
 abbrev pub invariant-devices : goal.invariant-devices
 invariant-devices l = length l.stands.items ≤ l.devices

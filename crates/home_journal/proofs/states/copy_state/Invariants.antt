@@ -1,5 +1,5 @@
 use Rattle.home_journal.proofs.states.copy_state.Given as goal
-use Rattle.std.proofs.Common.{length, take, ◌≡◌}
+use Rattle.home_journal.proofs.Prelude.{length, take, ◌≡◌}
 
 abbrev pub invariant-devices : goal.invariant-devices
 invariant-devices l =

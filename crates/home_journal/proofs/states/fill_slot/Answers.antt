@@ -1,7 +1,6 @@
 use Rattle.home_journal.proofs.StateBytes.{bytes_more, small_more}
 use Rattle.home_journal.proofs.states.fill_slot.Goals as goal
-use Rattle.std.proofs.Common.{arith, length, rules, w16, w32, ◌++◌, ◌<◌}
-use Rattle.std.specs.Int.{to_le_bytes}
+use Rattle.home_journal.proofs.Prelude.{arith, length, rules, to_le_bytes, w16, w32, ◌++◌, ◌<◌}
 
 pub devices-preserved : goal.devices-preserved
 devices-preserved c =

@@ -1,8 +1,5 @@
 use Rattle.home_journal.proofs.states.fill_slot.Given as goal
-use Rattle.home_journal.specs.Slots.{stand_bytes}
-use Rattle.std.proofs.Common.{All, length, take, vec_capacity, w16, w32, ◌*◌, ◌++◌, ◌+◌, ◌<◌, ◌^◌, ◌≡◌, ◌≤◌}
-use Rattle.std.specs.Int.{to_le_bytes}
-use Rattle.std.specs.List.{flat_map}
+use Rattle.home_journal.proofs.Prelude.{All, flat_map, length, stand_bytes, take, to_le_bytes, vec_capacity, w16, w32, ◌*◌, ◌++◌, ◌+◌, ◌<◌, ◌^◌, ◌≡◌, ◌≤◌}
 
 abbrev pub invariant-devices : goal.invariant-devices
 invariant-devices l =

@@ -1,7 +1,6 @@
 use Rattle.home_journal.proofs.StateBytes.{IsReadTo, read_all, read_bad, read_first, read_next, read_short}
 use Rattle.home_journal.proofs.states.read_stands.Goals as goal
-use Rattle.home_types.specs.declared.kinds.Kind.TheVariants.{States}
-use Rattle.std.proofs.Common.{arith, drop, false, inl, inr, length, rules, subst, sym, take, true, ◌+◌, ◌-◌, ◌<◌, ◌≡◌, ◌∙◌}
+use Rattle.home_journal.proofs.Prelude.{States, arith, drop, false, inl, inr, length, rules, subst, sym, take, true, ◌+◌, ◌-◌, ◌<◌, ◌∙◌, ◌≡◌}
 
 pub devices-init : goal.devices-init
 devices-init c = (read_first _ _ _, c.requires.devices)

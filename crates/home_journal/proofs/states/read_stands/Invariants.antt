@@ -1,6 +1,6 @@
 use Rattle.home_journal.proofs.StateBytes.{IsReadTo}
 use Rattle.home_journal.proofs.states.read_stands.Given as goal
-use Rattle.std.proofs.Common.{length, ◌≡◌}
+use Rattle.home_journal.proofs.Prelude.{length, ◌≡◌}
 
 abbrev pub invariant-devices : goal.invariant-devices
 invariant-devices l =

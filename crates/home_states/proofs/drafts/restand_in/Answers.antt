@@ -1,16 +1,10 @@
-use Rattle.handed_devices.specs.declared.devices.HandedDevice.{HandedDevice}
+use Rattle.home_states.proofs.Prelude.{Bool, HandedDevice, HomeState, None, Option, Some, ap, arith, common_steps, false, first_against_finding, get_or_from_slice_get, if◌then◌else◌, length, nat_le, refl, rules, slice_get, slice_get_within, sym, true, ℕ, ◌<◌, ◌∙◌, ◌≡◌}
 use Rattle.home_states.proofs.drafts.restand_in.Goals as goal
-use Rattle.home_states.specs.Drafts.{first_against_finding}
 use Rattle.home_states.specs.declared.refusals.NotRestood.TheVariants.{Absent, NoValue}
 use Rattle.home_states.specs.declared.refusals.NotRestood.{NotRestood}
 use Rattle.home_types.specs.Kinds.{has_value, kind_at}
 use Rattle.home_types.specs.declared.kinds.Kind.TheVariants.{States}
-use Rattle.hub_core.specs.Homes.{HomeState}
 use Rattle.hub_core.specs.Restandings.{restood}
-use Rattle.std.proofs.Common.{None, Some, ap, arith, refl, rules, sym, true, ◌∙◌, ◌≡◌}
-use Rattle.std.proofs.lemmas.Grind.{common_steps}
-use Rattle.std.proofs.lemmas.Option.{get_or_from_slice_get, slice_get_within}
-use Rattle.std.specs.Prelude.{Bool, Option, false, if◌then◌else◌, length, nat_le, slice_get, ℕ, ◌<◌}
 
 by_both : (beyond has : Bool) → beyond ≡ false → has ≡ true → ◌≡◌ {A = Option NotRestood} (if beyond then Some Absent else (if has then None else Some NoValue)) None
 by_both false true e f = refl

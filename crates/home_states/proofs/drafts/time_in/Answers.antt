@@ -1,6 +1,6 @@
 use Rattle.home_states.proofs.Refusing.{no_time_in_bytes, time_in_text}
 use Rattle.home_states.proofs.drafts.time_in.Goals as goal
-use Rattle.std.proofs.Common.{sym, ◌∙◌}
+use Rattle.home_states.proofs.Prelude.{sym, ◌∙◌}
 
 pub returns-in-Ok-read_time-clause-time : goal.returns-in-Ok-read_time-clause-time
 returns-in-Ok-read_time-clause-time c =

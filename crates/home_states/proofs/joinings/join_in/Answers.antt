@@ -1,8 +1,7 @@
 use Rattle.home_states.proofs.Joining.{both_joined, if_not_err, may_join}
 use Rattle.home_states.proofs.joinings.join_in.Goals as goal
 use Rattle.live_scripts.proofs.Cited.{may_take}
-use Rattle.std.proofs.Common.{rules, ◌≡◌}
-use Rattle.std.specs.Prelude.{length, ◌+◌}
+use Rattle.home_states.proofs.Prelude.{length, rules, ◌+◌, ◌≡◌}
 
 pub add_run-requires : goal.add_run-requires
 add_run-requires c =

@@ -1,9 +1,6 @@
-use Rattle.handed_devices.specs.declared.devices.HandedDevice.{HandedDevice}
+use Rattle.home_states.proofs.Prelude.{HandedDevice, OpenHub, configuration_of, length, subst, ◌≤◌}
 use Rattle.home_states.proofs.Counting.{few_tickets}
 use Rattle.home_states.proofs.numbers.few.Goals as goal
-use Rattle.hub_core.specs.OpenHubs.{OpenHub, configuration_of}
-use Rattle.std.proofs.Common.{subst}
-use Rattle.std.specs.Prelude.{length, ◌≤◌}
 
 pub returns-clause-few : goal.returns-clause-few
 returns-clause-few c few =

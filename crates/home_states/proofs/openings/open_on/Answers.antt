@@ -1,14 +1,9 @@
-use Rattle.command_rules.specs.Rosters.{runs_of}
+use Rattle.home_states.proofs.Prelude.{Some, handed_shows, inr, refl, rules, runs_of, script_runs, setting_for, slice_get, ◌<◌, ◌^◌, ◌≡◌}
 use Rattle.home_states.proofs.Counting.{opened_numbers}
 use Rattle.home_states.proofs.Joining.{own_opened}
 use Rattle.home_states.proofs.Refusing.{free_opened}
 use Rattle.home_states.proofs.Windows.{may_open_ever}
 use Rattle.home_states.proofs.openings.open_on.Goals as goal
-use Rattle.home_states.specs.Openings.{handed_shows}
-use Rattle.hub_core.specs.Homes.{setting_for}
-use Rattle.routine_reader.specs.Rosters.{script_runs}
-use Rattle.std.proofs.Common.{inr, refl, rules, ◌≡◌}
-use Rattle.std.specs.Prelude.{Some, slice_get, ◌<◌, ◌^◌}
 
 pub open-requires : goal.open-requires
 open-requires c =

@@ -1,6 +1,5 @@
 use Rattle.hub_commands.proofs.board_lines.board_line.Goals as goal
-use Rattle.hub_commands.specs.Boards.{board_line}
-use Rattle.std.proofs.Common.{List, codes, ℕ, ◌++◌, ◌≡◌, ◌∙◌}
+use Rattle.hub_commands.proofs.Prelude.{List, board_line, codes, ℕ, ◌++◌, ◌∙◌, ◌≡◌}
 use Rattle.std.proofs.lemmas.List.{append_assoc}
 use Rattle.std.specs.Fmt.{decimal}
 

@@ -1,8 +1,7 @@
 use Rattle.hub_commands.proofs.DaysUnderWay.{starts}
 use Rattle.hub_commands.proofs.PlayedDays.{head_alone, unbuilt}
 use Rattle.hub_commands.proofs.days.begin.Goals as goal
-use Rattle.hub_commands.specs.Days.{new_course}
-use Rattle.std.proofs.Common.{None}
+use Rattle.hub_commands.proofs.Prelude.{None, new_course}
 
 pub returns-in_default-clause-goes_on : goal.returns-in_default-clause-goes_on
 returns-in_default-clause-goes_on g c =

@@ -1,7 +1,7 @@
 use Rattle.hub_commands.proofs.KeptWindows.{stop_back}
 use Rattle.hub_commands.proofs.PlayedDays.{begun, head_stopped}
 use Rattle.hub_commands.proofs.days.begin_on.Goals as goal
-use Rattle.std.proofs.Common.{ap, length}
+use Rattle.hub_commands.proofs.Prelude.{ap, length}
 
 pub returns-in-Ok-clause-begun : goal.returns-in-Ok-clause-begun
 returns-in-Ok-clause-begun g c course starts head =

@@ -1,7 +1,7 @@
 use Rattle.hub_commands.proofs.KeptWindows.{stop_back}
 use Rattle.hub_commands.proofs.PlayedDays.{finished, total_stopped}
 use Rattle.hub_commands.proofs.days.end.Goals as goal
-use Rattle.std.proofs.Common.{Some, refl}
+use Rattle.hub_commands.proofs.Prelude.{Some, refl}
 
 pub returns-in-Err-clause-ends : goal.returns-in-Err-clause-ends
 returns-in-Err-clause-ends g c course held f going all =

@@ -2,9 +2,7 @@ use Rattle.hub_commands.proofs.KeptWindows.{stop_back}
 use Rattle.hub_commands.proofs.PlayedDays.{goes_on, lines_stopped, starved}
 use Rattle.hub_commands.proofs.Snocs.{length_more}
 use Rattle.hub_commands.proofs.days.go_on.Goals as goal
-use Rattle.hub_commands.specs.Days.{course_behind}
-use Rattle.hub_commands.specs.Going.{NextIs, windows_in}
-use Rattle.std.proofs.Common.{Err, None, Ok, ap, length, subst, sym, ◌∙◌}
+use Rattle.hub_commands.proofs.Prelude.{Err, NextIs, None, Ok, ap, course_behind, length, subst, sym, windows_in, ◌∙◌}
 
 pub returns-in-Err-clause-written : goal.returns-in-Err-clause-written
 returns-in-Err-clause-written g c course held f home records going next =

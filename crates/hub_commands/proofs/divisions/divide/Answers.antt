@@ -1,8 +1,7 @@
 use Rattle.hub_commands.proofs.Dividing.{divides_here, divides_more, divides_none, fits_within, rest_all}
 use Rattle.hub_commands.proofs.divisions.divide.Goals as goal
 use Rattle.hub_commands.specs.Divisions.{is_divider, lines_with_feeds}
-use Rattle.std.proofs.lemmas.List.{drop_all}
-use Rattle.std.proofs.Common.{ap, append-nil, arith, drop, length, subst, sym, take, ◌-◌, ◌∙◌, ◌≡◌, ◌≤◌, ◌∷◌}
+use Rattle.hub_commands.proofs.Prelude.{ap, append-nil, arith, drop, drop_all, length, subst, sym, take, ◌-◌, ◌∙◌, ◌∷◌, ◌≡◌, ◌≤◌}
 
 pub returns-then-is_divider : goal.returns-then-is_divider
 returns-then-is_divider c =

@@ -1,6 +1,6 @@
 use Rattle.hub_commands.proofs.divisions.divide.Given as goal
 use Rattle.hub_commands.specs.Divisions.{division_of, with_script_line}
-use Rattle.std.proofs.Common.{drop, length, take, ◌-◌, ◌≡◌, ◌≤◌}
+use Rattle.hub_commands.proofs.Prelude.{drop, length, take, ◌-◌, ◌≡◌, ◌≤◌}
 
 -- the lines so far are of the script
 abbrev pub invariant-lines : goal.invariant-lines

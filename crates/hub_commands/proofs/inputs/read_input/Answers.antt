@@ -1,6 +1,6 @@
 use Rattle.hub_commands.proofs.OverLimit.{over_limit}
 use Rattle.hub_commands.proofs.inputs.read_input.Goals as goal
-use Rattle.std.proofs.Common.{Err, ap, inr, refl, rules}
+use Rattle.hub_commands.proofs.Prelude.{Err, ap, inr, refl, rules}
 
 pub returns-in-Err-OverLimit-clause-read : goal.returns-in-Err-OverLimit-clause-read
 returns-in-Err-OverLimit-clause-read g c = record {

@@ -2,9 +2,7 @@ use Rattle.hub_commands.proofs.AskedModes.{keep_goes}
 use Rattle.hub_commands.proofs.EndedCalls.{no_script}
 use Rattle.hub_commands.proofs.KeptCalls.{refused_keep, starved_keep}
 use Rattle.hub_commands.proofs.keeps.keep_command.Goals as goal
-use Rattle.hub_commands.specs.CommandsTaken.{keep_options_of}
-use Rattle.hub_commands.specs.Finishes.{IsUnread, IsUnwritten, read_off, written}
-use Rattle.std.proofs.Common.{map, refl, rules, string_bytes}
+use Rattle.hub_commands.proofs.Prelude.{IsUnread, IsUnwritten, keep_options_of, map, read_off, refl, rules, string_bytes, written}
 
 pub keep_script-requires-clause-goes : goal.keep_script-requires-clause-goes
 keep_script-requires-clause-goes g c = keep_goes (map string_bytes c.args.words.now) c.in-Ok.options c.in-Ok.ensures.meaning

@@ -1,10 +1,7 @@
 use Rattle.hub_commands.proofs.GivenDays.{kept_given}
 use Rattle.hub_commands.proofs.KeptCalls.{opened_ends}
 use Rattle.hub_commands.proofs.keeps.keep_script.Goals as goal
-use Rattle.hub_commands.specs.KeptDays.{kept_course}
-use Rattle.hub_commands.specs.Finishes.{IsUnwritten, written}
-use Rattle.hub_commands.specs.Ways.{IsReplayOf}
-use Rattle.std.proofs.Common.{inl, inr, rules}
+use Rattle.hub_commands.proofs.Prelude.{IsReplayOf, IsUnwritten, inl, inr, kept_course, rules, written}
 
 pub returns-in-Ok-clause-ends : goal.returns-in-Ok-clause-ends
 returns-in-Ok-clause-ends g c =

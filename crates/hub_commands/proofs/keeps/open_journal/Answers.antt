@@ -1,11 +1,7 @@
-use Rattle.home_journal.specs.Journals.{KnowsKept, LeavesOldOrSame, states_kept}
+use Rattle.hub_commands.proofs.Prelude.{Kind, KnowsKept, LeavesOldOrSame, List, arith, length-map, plain_window, states_kept, subst, ℕ, ◌∙◌, ◌≡◌}
 use Rattle.home_journal.specs.KeptStates.{kept_states}
-use Rattle.home_types.specs.declared.kinds.Kind.{Kind}
 use Rattle.hub_commands.proofs.KeptCalls.{not_opened}
 use Rattle.hub_commands.proofs.keeps.open_journal.Goals as goal
-use Rattle.routine_reader.specs.Scripts.{plain_window}
-use Rattle.std.proofs.Common.{List, arith, subst, ℕ, ◌∙◌, ◌≡◌}
-use Rattle.std.proofs.lemmas.List.{length-map}
 
 pub returns-in-Ok-open : goal.returns-in-Ok-open
 returns-in-Ok-open g c =

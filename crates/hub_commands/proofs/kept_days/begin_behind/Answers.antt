@@ -1,10 +1,7 @@
-use Rattle.day_report.specs.Days.{head_text, kept_line}
+use Rattle.hub_commands.proofs.Prelude.{IfOk, IsReplayOf, None, head_text, kept_course, kept_line, subst, ◌++◌, ◌≡◌}
 use Rattle.hub_commands.proofs.BegunBehind.{begins_under_way, some_beginning}
 use Rattle.hub_commands.proofs.PlayedDays.{unbuilt}
 use Rattle.hub_commands.proofs.kept_days.begin_behind.Goals as goal
-use Rattle.hub_commands.specs.KeptDays.{kept_course}
-use Rattle.hub_commands.specs.Ways.{IsReplayOf}
-use Rattle.std.proofs.Common.{IfOk, None, subst, ◌++◌, ◌≡◌}
 
 pub returns-in_default-clause-goes_on : goal.returns-in_default-clause-goes_on
 returns-in_default-clause-goes_on g c =

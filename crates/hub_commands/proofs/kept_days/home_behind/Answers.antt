@@ -1,8 +1,6 @@
-use Rattle.home_journal.specs.Journals.{IsStateOf}
+use Rattle.hub_commands.proofs.Prelude.{IsStateOf, ap, option_map, subst, sym, ◌∙◌}
 use Rattle.hub_commands.proofs.BegunBehind.{built_or_none, resumed_or_none}
 use Rattle.hub_commands.proofs.kept_days.home_behind.Goals as goal
-use Rattle.std.proofs.Common.{ap, subst, sym, ◌∙◌}
-use Rattle.std.specs.Prelude.{option_map}
 
 pub returns-in-Some-clause-home : goal.returns-in-Some-clause-home
 returns-in-Some-clause-home g c =

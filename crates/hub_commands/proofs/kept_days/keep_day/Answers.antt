@@ -2,15 +2,8 @@ use Rattle.hub_commands.proofs.BegunBehind.{same_course}
 use Rattle.hub_commands.proofs.KeptDays.{behind_all, ended_kept, starts_kept}
 use Rattle.hub_commands.proofs.KeptWindows.{back_windows}
 use Rattle.hub_commands.proofs.kept_days.keep_day.Goals as goal
-use Rattle.hub_commands.specs.Days.{course_behind}
-use Rattle.hub_commands.specs.Finishes.{written}
-use Rattle.hub_commands.specs.Going.{IsGoingOn}
-use Rattle.hub_commands.specs.KeptDays.{HasEndedBehind, HasEndedKept, kept_course}
-use Rattle.hub_commands.specs.Ways.{IsReplayOf}
+use Rattle.hub_commands.proofs.Prelude.{HasEndedBehind, HasEndedKept, IsGoingOn, IsReplayOf, None, [], arith, course_behind, drop, kept_course, length, length-drop, length-map, plain_window, refl, subst, sym, written, ◌∙◌, ◌≡◌, ◌≤◌}
 use Rattle.legal_days.specs.ResumedDays.{GoesOnBehind}
-use Rattle.routine_reader.specs.Scripts.{plain_window}
-use Rattle.std.proofs.Common.{None, [], arith, drop, length, refl, subst, sym, ◌∙◌, ◌≡◌, ◌≤◌}
-use Rattle.std.proofs.lemmas.List.{length-drop, length-map}
 
 pub returns-in-Err : goal.returns-in-Err
 returns-in-Err g c =

@@ -1,10 +1,6 @@
 use Rattle.hub_commands.proofs.kept_days.keep_day.Given as goal
-use Rattle.hub_commands.specs.Finishes.{written}
-use Rattle.hub_commands.specs.KeptDays.{IsKeptSoFar, kept_course}
-use Rattle.hub_commands.specs.Ways.{IsReplayOf}
-use Rattle.legal_days.specs.LegalDays.{Beginning}
+use Rattle.hub_commands.proofs.Prelude.{Beginning, IsKeptSoFar, IsReplayOf, kept_course, length, written, ◌≡◌}
 use Rattle.legal_days.specs.ResumedDays.{GoesOnBehind}
-use Rattle.std.proofs.Common.{length, ◌≡◌}
 
 -- as many windows are played, kept and written as were counted, behind the states that were kept
 abbrev pub invariant-windows : goal.invariant-windows

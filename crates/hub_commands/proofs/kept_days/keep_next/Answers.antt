@@ -1,13 +1,7 @@
 use Rattle.hub_commands.proofs.KeptDays.{ended_kept}
 use Rattle.hub_commands.proofs.PlayedDays.{starved}
 use Rattle.hub_commands.proofs.kept_days.keep_next.Goals as goal
-use Rattle.hub_commands.specs.Days.{course_behind}
-use Rattle.hub_commands.specs.Finishes.{written}
-use Rattle.hub_commands.specs.KeptDays.{windows_of}
-use Rattle.hub_commands.specs.Ways.{IsReplayOf}
-use Rattle.routine_reader.specs.Scripts.{plain_window}
-use Rattle.std.proofs.Common.{ap, arith, sym, ◌∙◌}
-use Rattle.std.proofs.lemmas.List.{length-map}
+use Rattle.hub_commands.proofs.Prelude.{IsReplayOf, ap, arith, course_behind, length-map, plain_window, sym, windows_of, written, ◌∙◌}
 
 pub write_kept-requires-clause-few : goal.write_kept-requires-clause-few
 write_kept-requires-clause-few g c =

@@ -1,13 +1,8 @@
-use Rattle.home_journal.specs.Journals.{IsStateOf}
+use Rattle.hub_commands.proofs.Prelude.{IsJournalSoFar, IsReplayOf, IsStateOf, course_behind, subst, sym, written, ◌∙◌}
 use Rattle.hub_commands.proofs.DaysUnderWay.{last_state}
 use Rattle.hub_commands.proofs.KeptDays.{ended_kept, ended_unkept, kept_more}
 use Rattle.hub_commands.proofs.KeptWindows.{back_windows}
 use Rattle.hub_commands.proofs.kept_days.write_kept.Goals as goal
-use Rattle.hub_commands.specs.Days.{course_behind}
-use Rattle.hub_commands.specs.Finishes.{written}
-use Rattle.hub_commands.specs.KeptDays.{IsJournalSoFar}
-use Rattle.hub_commands.specs.Ways.{IsReplayOf}
-use Rattle.std.proofs.Common.{subst, sym, ◌∙◌}
 
 pub keep-requires-clause-home : goal.keep-requires-clause-home
 keep-requires-clause-home g c =

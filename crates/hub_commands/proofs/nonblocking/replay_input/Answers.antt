@@ -1,8 +1,6 @@
 use Rattle.hub_commands.proofs.GivenDays.{day_given}
 use Rattle.hub_commands.proofs.nonblocking.replay_input.Goals as goal
-use Rattle.hub_commands.specs.Days.{new_course, plain}
-use Rattle.hub_commands.specs.Finishes.{written}
-use Rattle.hub_commands.specs.Ways.{IsReplayOf}
+use Rattle.hub_commands.proofs.Prelude.{IsReplayOf, new_course, plain, written}
 
 pub returns-in-Ok-clause-unasked : goal.returns-in-Ok-clause-unasked
 returns-in-Ok-clause-unasked g c none =

@@ -1,10 +1,8 @@
 use Rattle.command_words.specs.CommandLines.{command_line_of}
-use Rattle.command_words.specs.declared.command_lines.CommandLine.TheVariants.{Replay, Trial}
+use Rattle.hub_commands.proofs.Prelude.{Replay, Some, Trial, map, rules, still_line_of, string_bytes, ◌≡◌}
 use Rattle.hub_commands.proofs.AskedModes.{still_goes}
 use Rattle.hub_commands.proofs.AskedTrials.{asked_within}
 use Rattle.hub_commands.proofs.nonblocking.still_command.Goals as goal
-use Rattle.hub_commands.specs.CommandsTaken.{still_line_of}
-use Rattle.std.proofs.Common.{Some, map, rules, string_bytes, ◌≡◌}
 
 pub replay_input-requires : goal.replay_input-requires
 replay_input-requires g c =

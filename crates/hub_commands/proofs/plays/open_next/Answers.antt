@@ -1,8 +1,6 @@
 use Rattle.hub_commands.proofs.NextWindows.{opened_behind}
 use Rattle.hub_commands.proofs.plays.open_next.Goals as goal
-use Rattle.hub_commands.specs.Played.{NextIsOpened}
-use Rattle.legal_days.specs.LegalDays.{windows_behind}
-use Rattle.std.proofs.Common.{ap, length, subst, ◌∙◌}
+use Rattle.hub_commands.proofs.Prelude.{NextIsOpened, ap, length, subst, windows_behind, ◌∙◌}
 
 pub returns-in-Ok-clause-opened : goal.returns-in-Ok-clause-opened
 returns-in-Ok-clause-opened g c =

@@ -1,8 +1,7 @@
 use Rattle.hub_core.proofs.Cited.{may_open}
 use Rattle.hub_core.specs.HubCalls.{IsOpened}
 use Rattle.hub_commands.proofs.plays.open_window.Goals as goal
-use Rattle.routine_reader.proofs.Cited.{window-there}
-use Rattle.std.proofs.Common.{subst}
+use Rattle.hub_commands.proofs.Prelude.{subst, window-there}
 
 pub open_window-requires : goal.open_window-requires
 open_window-requires g c =

@@ -1,8 +1,6 @@
 use Rattle.hub_commands.proofs.NextWindows.{next_played}
 use Rattle.hub_commands.proofs.replays.replay_day.Goals as goal
-use Rattle.hub_commands.specs.Days.{new_course}
-use Rattle.hub_commands.specs.Ways.{IsReplayOf}
-use Rattle.std.proofs.Common.{arith, length, ◌≡◌}
+use Rattle.hub_commands.proofs.Prelude.{IsReplayOf, arith, length, new_course, ◌≡◌}
 
 pub returns-in-Err-go_on : goal.returns-in-Err-go_on
 returns-in-Err-go_on g c =

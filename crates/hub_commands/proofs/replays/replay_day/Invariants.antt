@@ -1,9 +1,5 @@
 use Rattle.hub_commands.proofs.replays.replay_day.Given as goal
-use Rattle.hub_commands.specs.Days.{new_course}
-use Rattle.hub_commands.specs.Finishes.{written}
-use Rattle.hub_commands.specs.Going.{IsGoingOn}
-use Rattle.hub_commands.specs.Ways.{IsReplayOf}
-use Rattle.std.proofs.Common.{length, ◌≡◌}
+use Rattle.hub_commands.proofs.Prelude.{IsGoingOn, IsReplayOf, length, new_course, written, ◌≡◌}
 
 -- as many windows are played and written as were counted
 abbrev pub invariant-windows : goal.invariant-windows

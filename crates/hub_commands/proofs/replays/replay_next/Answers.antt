@@ -1,14 +1,7 @@
 use Rattle.hub_commands.proofs.NextWindows.{behind_at, next_fresh, next_gone, next_kinds, next_rounds}
 use Rattle.hub_commands.proofs.Snocs.{length_more}
 use Rattle.hub_commands.proofs.replays.replay_next.Goals as goal
-use Rattle.hub_commands.specs.Days.{course_behind}
-use Rattle.hub_commands.specs.Played.{HasGoneOn}
-use Rattle.hub_commands.specs.Ways.{IsReplayOf}
-use Rattle.legal_days.specs.LegalDays.{windows_behind}
-use Rattle.routine_reader.proofs.Cited.{window-there}
-use Rattle.routine_reader.specs.declared.scripts.Script.{Script}
-use Rattle.routine_reader.specs.declared.scripts.WindowText.{WindowText}
-use Rattle.std.proofs.Common.{List, Some, ap, arith, get_or, length, slice_get, subst, sym, ℕ, ◌++◌, ◌+◌, ◌<◌, ◌∙◌, ◌∷◌, ◌≡◌, []}
+use Rattle.hub_commands.proofs.Prelude.{HasGoneOn, IsReplayOf, List, Script, Some, WindowText, [], ap, arith, course_behind, get_or, length, slice_get, subst, sym, window-there, windows_behind, ℕ, ◌++◌, ◌+◌, ◌<◌, ◌∙◌, ◌∷◌, ◌≡◌}
 
 -- the window of the number is the next one behind
 next_there : (script : Script) (before k number : ℕ) (seen : List WindowText) (window : WindowText) → number ≡ before + k → before + k < length script.windows.items

@@ -1,6 +1,6 @@
 use Rattle.hub_commands.proofs.NewRooms.{new_home}
 use Rattle.hub_commands.proofs.room_days.build_room.Goals as goal
-use Rattle.room_hubs.specs.RoomScripts.{room_devices}
+use Rattle.hub_commands.proofs.Prelude.{room_devices}
 
 pub returns : goal.returns
 returns g c =

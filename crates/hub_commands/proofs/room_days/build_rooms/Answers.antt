@@ -1,8 +1,6 @@
 use Rattle.hub_commands.proofs.NewRooms.{one_home_more}
 use Rattle.hub_commands.proofs.room_days.build_rooms.Goals as goal
-use Rattle.room_hubs.proofs.Cited.{rooms_few}
-use Rattle.std.proofs.Common.{[], ap, arith, length, rules, ◌++◌, ◌≡◌, ◌∷◌}
-use Rattle.std.proofs.lemmas.List.{length-append}
+use Rattle.hub_commands.proofs.Prelude.{[], ap, arith, length, length-append, rooms_few, rules, ◌++◌, ◌∷◌, ◌≡◌}
 
 pub overflow_cast-room : goal.overflow_cast-room
 overflow_cast-room g c =

@@ -1,9 +1,5 @@
 use Rattle.hub_commands.proofs.room_days.build_rooms.Given as goal
-use Rattle.hub_commands.specs.RoomGoing.{IsNewHome}
-use Rattle.hub_core.specs.Homes.{HomeState}
-use Rattle.room_hubs.specs.RoomScripts.{room_devices}
-use Rattle.std.proofs.Common.{Some, length, ℕ, ◌≡◌}
-use Rattle.std.specs.Prelude.{slice_get}
+use Rattle.hub_commands.proofs.Prelude.{HomeState, IsNewHome, Some, length, room_devices, slice_get, ℕ, ◌≡◌}
 
 abbrev pub invariant-rooms : goal.invariant-rooms
 invariant-rooms g l =

@@ -1,7 +1,6 @@
 use Rattle.hub_commands.proofs.RoomDaysGoing.{day_devices, day_roomed, end_finished, end_stopped}
 use Rattle.hub_commands.proofs.room_days.end.Goals as goal
-use Rattle.hub_commands.specs.RoomDevices.{AreAllPlaced, HasDevicesOf, IsRoomed}
-use Rattle.std.proofs.Common.{List, ap, length, refl, subst, sym, ℕ, ◌∙◌}
+use Rattle.hub_commands.proofs.Prelude.{AreAllPlaced, HasDevicesOf, IsRoomed, List, ap, length, refl, subst, sym, ℕ, ◌∙◌}
 
 pub stop-requires-clause-rooms : goal.stop-requires-clause-rooms
 stop-requires-clause-rooms g c =

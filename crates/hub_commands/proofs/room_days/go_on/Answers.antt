@@ -1,7 +1,6 @@
 use Rattle.hub_commands.proofs.RoomDaysGoing.{day_devices, day_own, day_roomed, few_devices, next_starved, next_stopped, next_written}
 use Rattle.hub_commands.proofs.room_days.go_on.Goals as goal
-use Rattle.hub_commands.specs.RoomGoing.{RoomNextIs}
-use Rattle.std.proofs.Common.{Err, Ok, subst}
+use Rattle.hub_commands.proofs.Prelude.{Err, Ok, RoomNextIs, subst}
 
 pub tell_lines-lines-requires-clause-devices : goal.tell_lines-lines-requires-clause-devices
 tell_lines-lines-requires-clause-devices g c =

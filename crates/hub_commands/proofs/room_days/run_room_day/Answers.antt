@@ -1,5 +1,5 @@
 use Rattle.hub_commands.proofs.room_days.run_room_day.Goals as goal
-use Rattle.std.proofs.Common.{arith}
+use Rattle.hub_commands.proofs.Prelude.{arith}
 
 pub windows-preserved : goal.windows-preserved
 windows-preserved g c =

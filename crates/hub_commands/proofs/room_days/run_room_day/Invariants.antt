@@ -1,7 +1,5 @@
 use Rattle.hub_commands.proofs.room_days.run_room_day.Given as goal
-use Rattle.hub_commands.specs.Finishes.{written}
-use Rattle.hub_commands.specs.RoomGoing.{IsRoomDay, IsWrittenSoFar}
-use Rattle.std.proofs.Common.{length, ◌≡◌}
+use Rattle.hub_commands.proofs.Prelude.{IsRoomDay, IsWrittenSoFar, length, written, ◌≡◌}
 
 -- as many windows are worked, told and written as were counted
 abbrev pub invariant-windows : goal.invariant-windows

@@ -1,9 +1,5 @@
 use Rattle.hub_commands.proofs.room_days.stop.Goals as goal
-use Rattle.hub_commands.specs.RoomGoing.{RoomStopEnds}
-use Rattle.hub_commands.specs.declared.faults.Fault.TheVariants.{Write}
-use Rattle.hub_commands.specs.declared.chunks.ChunkFault.{ChunkFault}
-use Rattle.std.proofs.Common.{List, Some, ap, length, refl, subst, sym, ℕ, ◌∙◌}
-use Rattle.hub_commands.specs.RoomDevices.{AreAllPlaced}
+use Rattle.hub_commands.proofs.Prelude.{AreAllPlaced, ChunkFault, List, RoomStopEnds, Some, Write, ap, length, refl, subst, sym, ℕ, ◌∙◌}
 
 pub returns-in-Sink-clause-ends : goal.returns-in-Sink-clause-ends
 returns-in-Sink-clause-ends g c =

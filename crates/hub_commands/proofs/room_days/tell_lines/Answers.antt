@@ -1,8 +1,7 @@
 use Rattle.hub_commands.proofs.RoomSteps.{last_split}
 use Rattle.hub_commands.proofs.ToldLines.{lines_told}
 use Rattle.hub_commands.proofs.room_days.tell_lines.Goals as goal
-use Rattle.std.proofs.Common.{[], ap, arith, length, ◌∷◌}
-use Rattle.std.proofs.lemmas.List.{length-append}
+use Rattle.hub_commands.proofs.Prelude.{[], ap, arith, length, length-append, ◌∷◌}
 
 pub last_lines-requires-clause-some : goal.last_lines-requires-clause-some
 last_lines-requires-clause-some c =

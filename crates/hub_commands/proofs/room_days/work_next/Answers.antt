@@ -1,7 +1,7 @@
 use Rattle.hub_commands.proofs.RoomDaysGoing.{next_day}
 use Rattle.hub_commands.proofs.RoomDaysLeft.{rooms_played}
 use Rattle.hub_commands.proofs.room_days.work_next.Goals as goal
-use Rattle.std.proofs.Common.{[], refl, rules, ◌++◌, ◌≡◌, ◌∷◌}
+use Rattle.hub_commands.proofs.Prelude.{[], refl, rules, ◌++◌, ◌∷◌, ◌≡◌}
 
 pub returns-in-Err : goal.returns-in-Err
 returns-in-Err g c =

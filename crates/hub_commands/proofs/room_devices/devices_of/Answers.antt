@@ -1,6 +1,6 @@
 use Rattle.hub_commands.proofs.RoomSteps.{all_turned, no_more}
 use Rattle.hub_commands.proofs.room_devices.devices_of.Goals as goal
-use Rattle.std.proofs.Common.{length}
+use Rattle.hub_commands.proofs.Prelude.{length}
 
 pub returns : goal.returns
 returns g c =

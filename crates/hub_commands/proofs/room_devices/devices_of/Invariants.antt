@@ -1,6 +1,5 @@
 use Rattle.hub_commands.proofs.room_devices.devices_of.Given as goal
-use Rattle.std.proofs.Common.{length, map, reverse, ◌+◌, ◌++◌, ◌≡◌, ◌≤◌}
-use Rattle.std.specs.Prelude.{vec_capacity, vec_len}
+use Rattle.hub_commands.proofs.Prelude.{length, map, reverse, vec_capacity, vec_len, ◌++◌, ◌+◌, ◌≡◌, ◌≤◌}
 
 abbrev pub invariant-homes : goal.invariant-homes
 invariant-homes g l =

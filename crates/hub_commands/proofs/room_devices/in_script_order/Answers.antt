@@ -1,6 +1,6 @@
 use Rattle.hub_commands.proofs.RoomRanks.{never_empty, none_left, ordering_begins, ordering_takes}
 use Rattle.hub_commands.proofs.room_devices.in_script_order.Goals as goal
-use Rattle.std.proofs.Common.{[], arith, rules, ◌+◌, ◌++◌, ◌-◌, ◌≡◌, ◌∷◌}
+use Rattle.hub_commands.proofs.Prelude.{[], arith, rules, ◌++◌, ◌+◌, ◌-◌, ◌∷◌, ◌≡◌}
 
 pub devices-init : goal.devices-init
 devices-init g c =

@@ -1,6 +1,6 @@
 use Rattle.hub_commands.proofs.RoomSteps.{IsOpeningBackward}
 use Rattle.hub_commands.proofs.room_plays.open_backward.Given as goal
-use Rattle.std.proofs.Common.{length}
+use Rattle.hub_commands.proofs.Prelude.{length}
 
 abbrev pub invariant-rooms : goal.invariant-rooms
 invariant-rooms g l =

@@ -1,11 +1,7 @@
 use Rattle.hub_commands.proofs.RoomsUnderWay.{all_ready, may_all_open, rooms_went, same_count}
 use Rattle.hub_commands.proofs.room_plays.work_rooms.Goals as goal
 use Rattle.hub_commands.specs.RoomPlays.{RoomsWent}
-use Rattle.hub_core.specs.Homes.{setting_for}
-use Rattle.hub_core.specs.Openings.{MayOpen}
-use Rattle.routine_reader.proofs.Cited.{window-there}
-use Rattle.routine_reader.specs.declared.scripts.WindowText.{WindowText}
-use Rattle.std.proofs.Common.{Some, subst, sym, ◌∙◌, ◌≡◌}
+use Rattle.hub_commands.proofs.Prelude.{MayOpen, Some, WindowText, setting_for, subst, sym, window-there, ◌∙◌, ◌≡◌}
 
 pub open_rooms-requires-clause-may : goal.open_rooms-requires-clause-may
 open_rooms-requires-clause-may g c k roster home roster_at home_at =

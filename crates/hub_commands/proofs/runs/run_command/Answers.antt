@@ -2,13 +2,8 @@ use Rattle.hub_commands.proofs.AskedModes.{run_goes}
 use Rattle.hub_commands.proofs.GivenDays.{day_given}
 use Rattle.hub_commands.proofs.ProbedDays.{probed_in_all}
 use Rattle.hub_commands.proofs.runs.run_command.Goals as goal
-use Rattle.hub_commands.specs.Days.{new_course, plain}
-use Rattle.hub_commands.specs.Finishes.{IsUnread, IsUnwritten, read_off, written}
-use Rattle.std.proofs.Common.{Some, inl, map, refl, rules, string_bytes}
-use Rattle.command_words.specs.declared.command_lines.CommandLine.TheVariants.{Run}
+use Rattle.hub_commands.proofs.Prelude.{IsRunWithin, IsUnread, IsUnwritten, Run, Some, inl, map, new_course, plain, read_off, refl, rules, run_line_of, string_bytes, written}
 use Rattle.hub_commands.proofs.EndedCalls.{asked_for, no_script, starved_words}
-use Rattle.hub_commands.specs.CommandsTaken.{run_line_of}
-use Rattle.hub_commands.specs.Ways.{IsRunWithin}
 
 pub run_day-requires-clause-goes : goal.run_day-requires-clause-goes
 run_day-requires-clause-goes g c κs within =

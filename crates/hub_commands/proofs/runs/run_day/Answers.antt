@@ -2,10 +2,7 @@ use Rattle.hub_commands.proofs.CountedRuns.{next_to_tell}
 use Rattle.hub_commands.proofs.NextWindows.{next_is}
 use Rattle.hub_commands.proofs.PublishedDays.{told_back}
 use Rattle.hub_commands.proofs.runs.run_day.Goals as goal
-use Rattle.hub_commands.specs.Boards.{IsToldOf}
-use Rattle.hub_commands.specs.Days.{new_course}
-use Rattle.hub_commands.specs.Ways.{IsRunWithin}
-use Rattle.std.proofs.Common.{arith, length, subst, sym, ◌∙◌, ◌≡◌}
+use Rattle.hub_commands.proofs.Prelude.{IsRunWithin, IsToldOf, arith, length, new_course, subst, sym, ◌∙◌, ◌≡◌}
 
 pub returns-in-Err-go_on : goal.returns-in-Err-go_on
 returns-in-Err-go_on g c =

@@ -1,10 +1,5 @@
 use Rattle.hub_commands.proofs.runs.run_day.Given as goal
-use Rattle.hub_commands.specs.Boards.{IsToldOf}
-use Rattle.hub_commands.specs.Days.{new_course}
-use Rattle.hub_commands.specs.Finishes.{written}
-use Rattle.hub_commands.specs.Going.{IsGoingOn}
-use Rattle.hub_commands.specs.Ways.{IsRunWithin}
-use Rattle.std.proofs.Common.{length, ◌≡◌}
+use Rattle.hub_commands.proofs.Prelude.{IsGoingOn, IsRunWithin, IsToldOf, length, new_course, written, ◌≡◌}
 
 -- as many windows are played and written as were counted, and who looks on was told of them
 abbrev pub invariant-windows : goal.invariant-windows

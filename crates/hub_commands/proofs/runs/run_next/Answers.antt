@@ -1,10 +1,6 @@
 use Rattle.hub_commands.proofs.NextWindows.{next_fresh, next_gone, next_rounds}
 use Rattle.hub_commands.proofs.runs.run_next.Goals as goal
-use Rattle.hub_commands.specs.Days.{new_course}
-use Rattle.hub_commands.specs.Played.{HasGoneOn}
-use Rattle.hub_commands.specs.Ways.{IsRunWithin}
-use Rattle.routine_reader.proofs.Cited.{window-there}
-use Rattle.std.proofs.Common.{ap, length, slice_get, subst, sym, ◌++◌, ◌<◌, ◌∙◌, ◌∷◌, []}
+use Rattle.hub_commands.proofs.Prelude.{HasGoneOn, IsRunWithin, [], ap, length, new_course, slice_get, subst, sym, window-there, ◌++◌, ◌<◌, ◌∙◌, ◌∷◌}
 
 pub run_opened-requires-clause-fresh : goal.run_opened-requires-clause-fresh
 run_opened-requires-clause-fresh g c κs within =

@@ -1,10 +1,8 @@
 use Rattle.day_report.specs.Trials.{trial_text}
 use Rattle.hub_commands.proofs.GivenDays.{line_given, starved_given}
 use Rattle.hub_commands.proofs.trials.judge_day.Goals as goal
-use Rattle.hub_commands.specs.Finishes.{written}
-use Rattle.hub_commands.specs.Trials.{agreeing, finding, line_due}
+use Rattle.hub_commands.proofs.Prelude.{IfOk, Some, agreeing, ap, ap₂, finding, length, line_due, subst, written, ◌∙◌, ◌≡◌}
 use Rattle.order_checker.specs.Records.{verdict_of}
-use Rattle.std.proofs.Common.{IfOk, Some, ap, ap₂, length, subst, ◌∙◌, ◌≡◌}
 
 pub returns-clause-judged : goal.returns-clause-judged
 returns-clause-judged g c =

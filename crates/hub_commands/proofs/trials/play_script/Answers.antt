@@ -1,11 +1,7 @@
 use Rattle.hub_commands.proofs.GivenDays.{day_given, starved_given}
 use Rattle.hub_commands.proofs.TrialDays.{judged_ends, whole_legal}
 use Rattle.hub_commands.proofs.trials.play_script.Goals as goal
-use Rattle.hub_commands.specs.Days.{new_course, plain}
-use Rattle.hub_commands.specs.Finishes.{written}
-use Rattle.hub_commands.specs.Trials.{trial_mode}
-use Rattle.hub_commands.specs.Ways.{IsReplayOf}
-use Rattle.std.proofs.Common.{None, Some, false, rules, ◌∙◌, ◌≡◌}
+use Rattle.hub_commands.proofs.Prelude.{IsReplayOf, None, Some, false, new_course, plain, rules, trial_mode, written, ◌∙◌, ◌≡◌}
 
 pub judge_day-requires-clause-legal : goal.judge_day-requires-clause-legal
 judge_day-requires-clause-legal g c =

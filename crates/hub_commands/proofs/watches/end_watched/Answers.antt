@@ -1,9 +1,6 @@
 use Rattle.hub_commands.proofs.watches.end_watched.Goals as goal
-use Rattle.hub_commands.specs.Boards.{board_line}
-use Rattle.hub_commands.specs.Finishes.{written}
+use Rattle.hub_commands.proofs.Prelude.{Fault, None, Option, Some, board_line, false, is_some, refl, subst, sym, written, ◌≡◌}
 use Rattle.hub_commands.specs.LastLines.{LineEnds}
-use Rattle.hub_commands.specs.declared.faults.Fault.{Fault}
-use Rattle.std.proofs.Common.{None, Option, Some, false, is_some, refl, subst, sym, ◌≡◌}
 
 none_there : (o : Option Fault) → is_some o ≡ false → o ≡ None
 none_there None none = refl

@@ -2,13 +2,8 @@ use Rattle.hub_commands.proofs.AskedModes.{watch_goes}
 use Rattle.hub_commands.proofs.GivenDays.{day_given}
 use Rattle.hub_commands.proofs.ProbedDays.{probed_in_all}
 use Rattle.hub_commands.proofs.watches.watch_command_telling.Goals as goal
-use Rattle.hub_commands.specs.Days.{boarded, new_course}
-use Rattle.hub_commands.specs.Finishes.{IsUnread, IsUnwritten, read_off, written}
-use Rattle.std.proofs.Common.{Some, inl, map, refl, rules, string_bytes}
-use Rattle.command_words.specs.declared.command_lines.CommandLine.TheVariants.{Watch}
+use Rattle.hub_commands.proofs.Prelude.{IsRunWithin, IsUnread, IsUnwritten, Some, Watch, boarded, inl, map, new_course, read_off, refl, rules, string_bytes, watch_line_of, written}
 use Rattle.hub_commands.proofs.EndedCalls.{asked_for, no_script, starved_words}
-use Rattle.hub_commands.specs.CommandsTaken.{watch_line_of}
-use Rattle.hub_commands.specs.Ways.{IsRunWithin}
 
 pub watch_day-requires-clause-goes : goal.watch_day-requires-clause-goes
 watch_day-requires-clause-goes g c κs within =

@@ -1,12 +1,9 @@
 use Rattle.hub_commands.proofs.PublishedDays.{seen_counts}
 use Rattle.hub_commands.proofs.WatchedDays.{line_ends, line_published, unbuilt_boarded}
 use Rattle.hub_commands.proofs.watches.watch_day.Goals as goal
-use Rattle.hub_commands.specs.Boards.{board_line}
-use Rattle.hub_commands.specs.Finishes.{written}
+use Rattle.hub_commands.proofs.Prelude.{IsRunWithin, board_line, subst, sym, written}
 use Rattle.hub_commands.specs.Watched.{IsPublished}
-use Rattle.hub_commands.specs.Ways.{IsRunWithin}
 use Rattle.status_board.specs.Publishings.{StartsWith}
-use Rattle.std.proofs.Common.{subst, sym}
 
 pub returns-in_default-clause-ends : goal.returns-in_default-clause-ends
 returns-in_default-clause-ends g c =

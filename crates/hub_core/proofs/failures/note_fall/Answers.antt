@@ -1,7 +1,6 @@
-use Rattle.home_types.specs.declared.items.Item.TheVariants.{Failed}
+use Rattle.hub_core.proofs.Prelude.{Failed, accesses_at}
 use Rattle.hub_core.proofs.failures.note_fall.Goals as goal
 use Rattle.hub_core.proofs.kept.SealedOrders.{turned_sealed}
-use Rattle.lineage_table.specs.Lineages.{accesses_at}
 
 pub seal-requires : goal.seal-requires
 seal-requires c =

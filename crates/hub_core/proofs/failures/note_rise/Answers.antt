@@ -1,8 +1,6 @@
-use Rattle.home_types.specs.declared.items.Item.TheVariants.{Back}
+use Rattle.hub_core.proofs.Prelude.{Back, None, accesses_at}
 use Rattle.hub_core.proofs.failures.note_rise.Goals as goal
 use Rattle.hub_core.proofs.kept.SealedOrders.{turned_sealed}
-use Rattle.lineage_table.specs.Lineages.{accesses_at}
-use Rattle.std.specs.Prelude.{None}
 
 pub seal-requires : goal.seal-requires
 seal-requires c =

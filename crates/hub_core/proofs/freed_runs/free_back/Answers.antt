@@ -1,8 +1,5 @@
 use Rattle.hub_core.proofs.freed_runs.free_back.Goals as goal
-use Rattle.hub_core.specs.BlockedRuns.{is_quiet}
-use Rattle.hub_core.specs.OpenHubs.{OpenHub}
-use Rattle.std.proofs.Common.{ap, inr, sym, ◌∙◌}
-use Rattle.std.specs.List.{list_all}
+use Rattle.hub_core.proofs.Prelude.{OpenHub, ap, inr, is_quiet, list_all, sym, ◌∙◌}
 
 pub returns : goal.returns
 returns g c = record {

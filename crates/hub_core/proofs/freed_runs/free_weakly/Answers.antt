@@ -1,7 +1,6 @@
 use Rattle.hub_core.proofs.freed_runs.free_weakly.Goals as goal
 use Rattle.hub_core.specs.BlockedMarks.{AreFreedWeakly, is_waiting}
-use Rattle.hub_core.specs.OpenHubs.{configuration_of}
-use Rattle.std.proofs.Common.{refl, subst, sym}
+use Rattle.hub_core.proofs.Prelude.{configuration_of, refl, subst, sym}
 
 pub returns-in-Wait : goal.returns-in-Wait
 returns-in-Wait g c = subst (λ t. AreFreedWeakly (is_waiting t) (configuration_of c.args.window.now) c.args.r.0 c.mark_waiting.new.blocked) (sym c.in-Wait.is) (record { freed = c.unmark_all.new.self; none = c.unmark_all.ensures; marked = c.mark_waiting.ensures })

@@ -1,10 +1,7 @@
 use Rattle.hub_core.proofs.calls.NewDevices.{new_next}
 use Rattle.hub_core.proofs.homes.build_devices.Goals as goal
-use Rattle.hub_core.specs.Homes.{AreNew}
+use Rattle.hub_core.proofs.Prelude.{AreNew, IfSome, List, Option, Some, refl, subst, sym, take_all, ℕ, ◌∙◌, ◌≡◌}
 use Rattle.routine_reader.specs.declared.scripts.DeviceText.{DeviceText}
-use Rattle.std.proofs.Common.{List, refl, subst, sym, ◌∙◌}
-use Rattle.std.specs.Prelude.{IfSome, Option, Some, ℕ, ◌≡◌}
-use Rattle.std.proofs.lemmas.List.{take_all}
 
 -- no device yet
 pub texts-init : goal.texts-init

@@ -1,6 +1,5 @@
 use Rattle.hub_core.proofs.homes.build_devices.Given as goal
-use Rattle.hub_core.specs.Homes.{AreNew}
-use Rattle.std.proofs.Common.{take}
+use Rattle.hub_core.proofs.Prelude.{AreNew, take}
 
 -- the devices up to here are built
 abbrev pub invariant-texts : goal.invariant-texts

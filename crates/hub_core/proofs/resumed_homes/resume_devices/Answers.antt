@@ -1,8 +1,7 @@
 use Rattle.hub_core.proofs.calls.ResumedHomes.{resumed_more}
 use Rattle.hub_core.proofs.resumed_homes.resume_devices.Goals as goal
-use Rattle.home_types.specs.HomeStates.{stand_at}
+use Rattle.hub_core.proofs.Prelude.{stand_at, subst, sym}
 use Rattle.legal_days.specs.ResumedDays.{IsDeviceResumed}
-use Rattle.std.proofs.Common.{subst, sym}
 
 -- one more
 pub texts-preserved : goal.texts-preserved

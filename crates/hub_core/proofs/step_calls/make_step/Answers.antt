@@ -1,12 +1,8 @@
 use Rattle.hub_core.proofs.calls.HubMarks.{marks_absent, marks_goes, marks_moved, marks_over, marks_wait, marks_weakly, model_before}
 use Rattle.hub_core.proofs.step_calls.make_step.Goals as goal
-use Rattle.device_gate.specs.declared.slips.Slip.{Slip}
+use Rattle.hub_core.proofs.Prelude.{IsTurn, Slip, configuration_of, false, subst, sym, ◌≡◌, ◌≢◌}
 use Rattle.blocked_runs.specs.Marks.{AreLeft}
-use Rattle.hub_core.specs.HubCalls.{IsTurn}
 use Rattle.hub_core.specs.MarkedRuns.{is_out_for_command}
-use Rattle.hub_core.specs.OpenHubs.{configuration_of}
-use Rattle.std.proofs.Common.{false, subst, sym}
-use Rattle.std.specs.Prelude.{◌≡◌, ◌≢◌}
 
 pub returns-then-is_weak-clause-marks : goal.returns-then-is_weak-clause-marks
 returns-then-is_weak-clause-marks g c = marks_weakly g.D.Device.shows c.args.window.now c.follow-turn.new.self c.args.r.0 c.args.moment _ _ (sym c.if-is_weak.ensures) c.whole_invariant-2.ensures c.follow-turn.ensures.turn c.free_weakly.ensures

@@ -1,8 +1,6 @@
 use Rattle.hub_table.proofs.Leaving.{front_hands, last_hand}
 use Rattle.hub_table.proofs.hands.drop_empty.Goals as goal
-use Rattle.hub_table.specs.Tables.{PlacesAreEmpty}
-use Rattle.std.proofs.Common.{ap, subst, ◌∙◌}
-use Rattle.std.specs.Prelude.{[], ◌++◌, ◌∷◌}
+use Rattle.hub_table.proofs.Prelude.{PlacesAreEmpty, [], ap, subst, ◌++◌, ◌∙◌, ◌∷◌}
 
 pub hands-preserved : goal.hands-preserved
 hands-preserved g c = front_hands c.pop.new.self.items (c.in-Some.hand ∷ []) (subst PlacesAreEmpty c.in-Some.ensures.items c.hands.invariant)

@@ -1,6 +1,5 @@
 use Rattle.hub_table.proofs.hands.drop_empty.Given as goal
-use Rattle.hub_table.specs.Tables.{PlacesAreEmpty}
-use Rattle.std.specs.Prelude.{vec_len}
+use Rattle.hub_table.proofs.Prelude.{PlacesAreEmpty, vec_len}
 
 abbrev pub invariant-hands : goal.invariant-hands
 invariant-hands g l = PlacesAreEmpty l.hands.items

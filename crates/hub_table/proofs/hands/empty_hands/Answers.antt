@@ -1,7 +1,6 @@
 use Rattle.hub_table.proofs.Leaving.{more_hands}
 use Rattle.hub_table.proofs.hands.empty_hands.Goals as goal
-use Rattle.hub_table.specs.Tables.{PlacesAreEmpty}
-use Rattle.std.proofs.Common.{arith, subst, sym, ◌∙◌}
+use Rattle.hub_table.proofs.Prelude.{PlacesAreEmpty, arith, subst, sym, ◌∙◌}
 
 pub hands-preserved : goal.hands-preserved
 hands-preserved g c = (

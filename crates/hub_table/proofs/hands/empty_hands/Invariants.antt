@@ -1,6 +1,5 @@
 use Rattle.hub_table.proofs.hands.empty_hands.Given as goal
-use Rattle.hub_table.specs.Tables.{PlacesAreEmpty}
-use Rattle.std.specs.Prelude.{vec_capacity, vec_len, ◌-◌, ◌≡◌, ◌≤◌}
+use Rattle.hub_table.proofs.Prelude.{PlacesAreEmpty, vec_capacity, vec_len, ◌-◌, ◌≡◌, ◌≤◌}
 
 -- as many empty places as fit
 abbrev pub invariant-hands : goal.invariant-hands

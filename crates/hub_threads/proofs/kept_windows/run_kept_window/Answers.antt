@@ -1,6 +1,6 @@
 use Rattle.home_journal.specs.Journals.{AddsStates, IsStateOf, LeavesFirst, states_kept}
 use Rattle.hub_threads.proofs.kept_windows.run_kept_window.Goals as goal
-use Rattle.std.proofs.Common.{Some, [], ap, refl, subst, sym, ◌∙◌, ◌∷◌}
+use Rattle.hub_threads.proofs.Prelude.{Some, [], ap, refl, subst, sym, ◌∙◌, ◌∷◌}
 
 pub keep-requires-clause-home : goal.keep-requires-clause-home
 keep-requires-clause-home g c =

@@ -1,6 +1,5 @@
 use Rattle.hub_threads.proofs.rooms.into_vec.Given as goal
-use Rattle.std.proofs.Common.{length, reverse, ◌+◌, ◌++◌, ◌≡◌, ◌≤◌}
-use Rattle.std.specs.Prelude.{vec_capacity, vec_len}
+use Rattle.hub_threads.proofs.Prelude.{length, reverse, vec_capacity, vec_len, ◌++◌, ◌+◌, ◌≡◌, ◌≤◌}
 
 abbrev pub invariant-items : goal.invariant-items
 invariant-items g l =

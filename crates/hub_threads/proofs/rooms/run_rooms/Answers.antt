@@ -1,11 +1,6 @@
-use Rattle.home_types.specs.declared.memory.NoMemory.{NoMemory}
+use Rattle.hub_threads.proofs.Prelude.{IfOk, IsRoomWorked, List, NoMemory, Result, RoomDone, RoomHub, ap, get_or, length, subst, ℕ, ◌<◌, ◌∙◌}
 use Rattle.hub_threads.proofs.RoomAnswers.{rooms_worked}
 use Rattle.hub_threads.proofs.rooms.run_rooms.Goals as goal
-use Rattle.hub_threads.specs.WorkedRooms.{IsRoomWorked}
-use Rattle.hub_threads.specs.declared.rooms.RoomDone.{RoomDone}
-use Rattle.hub_threads.specs.declared.rooms.RoomHub.{RoomHub}
-use Rattle.std.proofs.Common.{List, Result, ap, get_or, length, subst, ℕ, ◌<◌, ◌∙◌}
-use Rattle.std.specs.Prelude.{IfOk}
 
 pub returns-in-Ok-run_all : goal.returns-in-Ok-run_all
 returns-in-Ok-run_all g c =

@@ -1,9 +1,7 @@
 use Rattle.hub_threads.proofs.RunWords.{one_bit}
 use Rattle.hub_threads.proofs.sleepers.bit_of.Goals as goal
-use Rattle.std.proofs.Common.{arith}
-use Rattle.std.proofs.lemmas.Grind.{common_steps}
+use Rattle.hub_threads.proofs.Prelude.{arith, common_steps, ◌-◌, ◌<◌}
 use Rattle.std.proofs.lemmas.Nat.{one_shl}
-use Rattle.std.specs.Prelude.{◌-◌, ◌<◌}
 
 pub returns-then-r-le-MOST : goal.returns-then-r-le-MOST
 returns-then-r-le-MOST c =

@@ -1,12 +1,7 @@
-use Rattle.blocked_runs.specs.RunBits.{has_run}
-use Rattle.hub_core.specs.BlockedRuns.{IsBlocked}
-use Rattle.hub_core.specs.OpenHubs.{configuration_of}
+use Rattle.hub_threads.proofs.Prelude.{IsBlocked, SleepersAreBlocked, ap, configuration_of, has_run, has_run_bit, rules, subst, sym, true, ℕ, ◌&&◌, ◌==◌, ◌||◌, ◌∙◌, ◌≡◌}
 use Rattle.hub_threads.proofs.RunWords.{blocked_noted, noted, word_noted}
 use Rattle.hub_threads.proofs.sleepers.still_blocked.Goals as goal
 use Rattle.hub_threads.proofs.sleepers.still_blocked.Goals.{else-has, then-has+then-is_blocked}
-use Rattle.hub_threads.specs.Sleepers.{SleepersAreBlocked, has_run_bit}
-use Rattle.std.proofs.Common.{ap, rules, subst, sym, ◌∙◌}
-use Rattle.std.specs.Prelude.{true, ℕ, ◌&&◌, ◌==◌, ◌||◌, ◌≡◌}
 
 pub runs-preserved : goal.runs-preserved
 runs-preserved g c = elim c.if-has.branch [

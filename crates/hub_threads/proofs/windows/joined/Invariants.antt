@@ -1,5 +1,5 @@
 use Rattle.hub_threads.proofs.windows.joined.Given as goal
-use Rattle.std.proofs.Common.{vec_len, ◌+◌, ◌≡◌, ◌≤◌}
+use Rattle.hub_threads.proofs.Prelude.{vec_len, ◌+◌, ◌≡◌, ◌≤◌}
 
 abbrev pub invariant-workers : goal.invariant-workers
 invariant-workers g l = (l.all.parts + vec_len l.handles ≡ g.N.Ledger.parts) × (1 ≤ l.all.parts)

@@ -1,7 +1,7 @@
 use Rattle.hub_threads.proofs.Passes.{none_out}
 use Rattle.hub_threads.proofs.Worked.{worked_so}
 use Rattle.hub_threads.proofs.windows.run_window_by.Goals as goal
-use Rattle.std.proofs.Common.{sym, ◌∙◌}
+use Rattle.hub_threads.proofs.Prelude.{sym, ◌∙◌}
 
 pub run_named-requires-clause-out : goal.run_named-requires-clause-out
 run_named-requires-clause-out g c κs within = c.in-Ok.ensures ∙ none_out c.args.hub c.device_count-2.result c.requires.fresh (c.kept_invariant.ensures.size ∙ sym c.device_count-2.ensures)

@@ -1,4 +1,4 @@
-use Rattle.std.proofs.Common.{◌≡◌}
+use Rattle.hub_threads.proofs.Prelude.{◌≡◌}
 use Rattle.hub_threads.proofs.workers.work.Given as goal
 
 abbrev pub invariant-loop : goal.invariant-loop

@@ -1,7 +1,6 @@
 use Rattle.jit_scheduler.proofs.Admitted.{exact_is, may_fit, may_reach, may_run, placing_told, within_told}
 use Rattle.jit_scheduler.proofs.admissions.admit.Goals as goal
-use Rattle.jit_scheduler.specs.Admissions.{answer_by}
-use Rattle.std.proofs.Common.{ap, ◌∙◌}
+use Rattle.jit_scheduler.proofs.Prelude.{answer_by, ap, ◌∙◌}
 
 pub first_place-place-requires : goal.first_place-place-requires
 first_place-place-requires c = may_run c.args.s.now c.args.r.0 c.args.arrived c.requires

@@ -1,9 +1,7 @@
-use Rattle.command_rules.specs.Rosters.{touches}
+use Rattle.jit_scheduler.proofs.Prelude.{None, Some, WindowParts, subst, sym, touches, ◌∙◌}
 use Rattle.home_types.specs.DeviceSets.{IsFirstFrom}
 use Rattle.jit_scheduler.proofs.DeviceWalks.{first_one, none_left, passed_one}
 use Rattle.jit_scheduler.proofs.denials.find_denial.Goals as goal
-use Rattle.lock_leasing.specs.Standings.{WindowParts}
-use Rattle.std.proofs.Common.{None, Some, subst, sym, ◌∙◌}
 
 pub find_denier-requires-clause-device : goal.find_denier-requires-clause-device
 find_denier-requires-clause-device c =

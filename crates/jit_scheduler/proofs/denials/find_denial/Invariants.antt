@@ -1,6 +1,5 @@
 use Rattle.jit_scheduler.proofs.denials.find_denial.Given as goal
-use Rattle.jit_scheduler.specs.Denials.{denial_on}
-use Rattle.std.proofs.Common.{None, length, ℕ, ◌-◌, ◌<◌, ◌≡◌}
+use Rattle.jit_scheduler.proofs.Prelude.{None, denial_on, length, ℕ, ◌-◌, ◌<◌, ◌≡◌}
 
 -- no device so far is denied
 abbrev pub invariant-devices : goal.invariant-devices

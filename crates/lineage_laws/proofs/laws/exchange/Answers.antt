@@ -1,4 +1,4 @@
-use Rattle.command_rules.specs.Rosters.{runs_of}
+use Rattle.lineage_laws.proofs.Prelude.{runs_of}
 use Rattle.lineage_laws.proofs.Exchanges.{apart_exchange}
 use Rattle.lineage_laws.proofs.laws.exchange.Goals as goal
 

@@ -1,6 +1,6 @@
 use Rattle.lineage_laws.proofs.laws.line_order.Goals as goal
 use Rattle.lineage_laws.proofs.LineOrders.{order_drop, order_put, order_without}
-use Rattle.lineage_table.specs.Lineages.{accesses_at}
+use Rattle.lineage_laws.proofs.Prelude.{accesses_at}
 
 pub returns-clause-without : goal.returns-clause-without
 returns-clause-without c = λ r. order_without c.args.runs.now.items (accesses_at c.args.table.now c.args.d.0) r c.requires.order

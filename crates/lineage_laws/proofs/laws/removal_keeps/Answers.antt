@@ -1,7 +1,5 @@
 use Rattle.lineage_laws.proofs.laws.removal_keeps.Goals as goal
-use Rattle.lineage_table.proofs.Cited.{not_writer, without_stands}
-use Rattle.lineage_table.specs.Accesses.{effective_writer}
-use Rattle.lineage_table.specs.Lineages.{accesses_at, lineage_at}
+use Rattle.lineage_laws.proofs.Prelude.{accesses_at, effective_writer, lineage_at, not_writer, without_stands}
 
 pub returns : goal.returns
 returns c =

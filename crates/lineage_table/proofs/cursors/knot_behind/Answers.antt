@@ -1,9 +1,6 @@
-use Rattle.chain_arena.specs.Chains.{rest_of, values_of}
+use Rattle.lineage_table.proofs.Prelude.{IsKnotOf, ap, behind_run, rest_of, subst, sym, values_of, ◌∙◌}
 use Rattle.lineage_table.proofs.Knots.{behind_there, none_behind_run}
 use Rattle.lineage_table.proofs.cursors.knot_behind.Goals as goal
-use Rattle.lineage_table.specs.Accesses.{behind_run}
-use Rattle.lineage_table.specs.Knots.{IsKnotOf}
-use Rattle.std.proofs.Common.{ap, subst, sym, ◌∙◌}
 
 pub returns-in_err-k-clause-rest : goal.returns-in_err-k-clause-rest
 returns-in_err-k-clause-rest c =

@@ -1,9 +1,7 @@
-use Rattle.chain_arena.specs.Chains.{values_of}
+use Rattle.lineage_table.proofs.Prelude.{AreOfTwoRuns, sym, values_of, ◌∙◌}
 use Rattle.lineage_table.proofs.Knots.{cut_near}
 use Rattle.lineage_table.proofs.Pairs.{pairs_from_all}
 use Rattle.lineage_table.proofs.cursors.knot_near.Goals as goal
-use Rattle.lineage_table.specs.Accesses.{AreOfTwoRuns}
-use Rattle.std.proofs.Common.{sym, ◌∙◌}
 
 pub returns : goal.returns
 returns c =

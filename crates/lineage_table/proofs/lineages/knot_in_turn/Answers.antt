@@ -1,11 +1,7 @@
 use Rattle.lineage_table.proofs.Keeping.{tests_scheduled}
 use Rattle.lineage_table.proofs.Knots.{before_cut, seen_list, seen_none, seen_waits}
 use Rattle.lineage_table.proofs.lineages.knot_in_turn.Goals as goal
-use Rattle.chain_arena.specs.declared.knots.Knot.{Knot}
-use Rattle.lineage_table.specs.Accesses.{is_scheduled, some_scheduled}
-use Rattle.lineage_table.specs.declared.accesses.Access.{Access}
-use Rattle.std.proofs.Common.{[], ap, sym, ◌++◌, ◌∙◌, ◌∷◌}
-use Rattle.std.specs.Prelude.{◌||◌}
+use Rattle.lineage_table.proofs.Prelude.{Access, Knot, [], ap, is_scheduled, some_scheduled, sym, ◌++◌, ◌||◌, ◌∙◌, ◌∷◌}
 
 pub returns-then-eq-clause-waits : goal.returns-then-eq-clause-waits
 returns-then-eq-clause-waits c =

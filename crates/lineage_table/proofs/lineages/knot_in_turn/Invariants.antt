@@ -1,9 +1,5 @@
-use Rattle.chain_arena.specs.Chains.{values_of}
-use Rattle.chain_arena.specs.declared.knots.Knot.{Knot}
+use Rattle.lineage_table.proofs.Prelude.{Access, Knot, List, false, has_access, some_scheduled, values_of, ◌++◌, ◌≡◌}
 use Rattle.lineage_table.proofs.lineages.knot_in_turn.Given as goal
-use Rattle.lineage_table.specs.Accesses.{has_access, some_scheduled}
-use Rattle.lineage_table.specs.declared.accesses.Access.{Access}
-use Rattle.std.proofs.Common.{List, false, ◌++◌, ◌≡◌}
 
 -- none of those in front is the run's, and whether one of them is scheduled is known
 abbrev pub invariant-accesses : goal.invariant-accesses

@@ -1,8 +1,6 @@
-use Rattle.chain_arena.specs.declared.knots.Knot.{Knot}
+use Rattle.lineage_table.proofs.Prelude.{Access, Knot, [], sym, ◌++◌, ◌∙◌, ◌∷◌}
 use Rattle.lineage_table.proofs.Knots.{seen_list, seen_none}
 use Rattle.lineage_table.proofs.lineages.knot_of.Goals as goal
-use Rattle.lineage_table.specs.declared.accesses.Access.{Access}
-use Rattle.std.proofs.Common.{[], sym, ◌++◌, ◌∙◌, ◌∷◌}
 
 pub accesses-preserved : goal.accesses-preserved
 accesses-preserved c =

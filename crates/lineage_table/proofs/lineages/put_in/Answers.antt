@@ -1,9 +1,7 @@
 use Rattle.chain_arena.proofs.Cited.{values_join}
-use Rattle.chain_arena.specs.Chains.{values_of}
+use Rattle.lineage_table.proofs.Prelude.{[], ap, put_access_before, sym, values_of, ◌∙◌, ◌∷◌}
 use Rattle.lineage_table.proofs.Knots.{put_there, there}
 use Rattle.lineage_table.proofs.lineages.put_in.Goals as goal
-use Rattle.lineage_table.specs.Accesses.{put_access_before}
-use Rattle.std.proofs.Common.{[], ap, sym, ◌∙◌, ◌∷◌}
 
 pub knot-k-requires : goal.knot-k-requires
 knot-k-requires c = c.requires.before c.in-Some.r c.in-Some.is

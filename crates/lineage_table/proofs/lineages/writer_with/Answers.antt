@@ -1,7 +1,7 @@
 use Rattle.lineage_table.proofs.Writers.{only_none, only_own}
 use Rattle.lineage_table.proofs.lineages.writer_with.Goals as goal
 use Rattle.lineage_table.proofs.lineages.writer_with.Goals.{else-is_none, then-is_none}
-use Rattle.std.proofs.Common.{sym, ◌∙◌}
+use Rattle.lineage_table.proofs.Prelude.{sym, ◌∙◌}
 
 pub writer_of-requires : goal.writer_of-requires
 writer_of-requires c = λ last. c.requires (

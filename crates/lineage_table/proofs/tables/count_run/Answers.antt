@@ -1,7 +1,7 @@
 use Rattle.lineage_table.proofs.DeviceCounts.{counts_new, counts_none, sees_known, sees_new, sees_none}
 use Rattle.lineage_table.proofs.tables.count_run.Goals as goal
 use Rattle.lineage_table.proofs.tables.count_run.Goals.{then-device-lt256+then-not-has, else-device-lt256, else-device-lt256-via-then-device-lt256+else-not-has, else-device-lt256-via-else-device-lt256}
-use Rattle.std.proofs.Common.{arith, refl, sym, ◌∙◌}
+use Rattle.lineage_table.proofs.Prelude.{arith, refl, sym, ◌∙◌}
 
 pub commands-init : goal.commands-init
 commands-init c = rw c.none-seen.ensures (sees_none, counts_none c.args.counts.now)

@@ -1,13 +1,8 @@
-use Rattle.command_rules.specs.Rosters.{is_on, runs_of}
+use Rattle.lineage_table.proofs.Prelude.{List, ap, arith, get_or, get_or-replicate, if◌then◌else◌, is_on, length, list_any, runs_of, runs_on, subst, sym, take, ◌+◌, ◌<◌, ◌∙◌, ◌≡◌, ◌≤◌}
 use Rattle.command_rules.specs.declared.rosters.RosterRun.{RosterRun}
 use Rattle.home_types.specs.declared.commands.Command.{Command}
 use Rattle.lineage_table.proofs.DeviceCounts.{counted_all, few_counted, run_counted}
 use Rattle.lineage_table.proofs.tables.count_runs.Goals as goal
-use Rattle.lineage_table.specs.Lineages.{runs_on}
-use Rattle.std.proofs.Common.{List, ap, arith, get_or, length, subst, sym, take, ◌+◌, ◌<◌, ◌∙◌, ◌≡◌, ◌≤◌}
-use Rattle.std.proofs.lemmas.List.{get_or-replicate}
-use Rattle.std.specs.List.{list_any}
-use Rattle.std.specs.Prelude.{if◌then◌else◌}
 
 pub runs-init : goal.runs-init
 runs-init c = λ d low. get_or-replicate 256 d 0 0 low

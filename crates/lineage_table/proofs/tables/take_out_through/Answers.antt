@@ -1,6 +1,6 @@
 use Rattle.lineage_table.proofs.Leaving.{all_leave, more_leave}
 use Rattle.lineage_table.proofs.tables.take_out_through.Goals as goal
-use Rattle.std.proofs.Common.{sym, ◌∙◌}
+use Rattle.lineage_table.proofs.Prelude.{sym, ◌∙◌}
 
 pub leaving-preserved : goal.leaving-preserved
 leaving-preserved c =

@@ -1,10 +1,5 @@
-use Rattle.chain_arena.specs.Chains.{values_of}
-use Rattle.chain_arena.specs.declared.knots.Knot.{Knot}
+use Rattle.lineage_table.proofs.Prelude.{Access, HasLess, Knot, List, false, has_access, values_of, ◌++◌, ◌≡◌}
 use Rattle.lineage_table.proofs.tables.take_out_through.Given as goal
-use Rattle.lineage_table.specs.Accesses.{has_access}
-use Rattle.lineage_table.specs.RunDevices.{HasLess}
-use Rattle.lineage_table.specs.declared.accesses.Access.{Access}
-use Rattle.std.proofs.Common.{List, false, ◌++◌, ◌≡◌}
 
 -- the device is out of the sets of the runs so far, and none of them is the run itself
 abbrev pub invariant-leaving : goal.invariant-leaving

@@ -1,9 +1,6 @@
-use Rattle.command_rules.proofs.Cited.{last_within}
-use Rattle.command_rules.specs.Rosters.{commands_of, runs_of}
+use Rattle.lock_leasing.proofs.Prelude.{ap, commands_of, last_within, runs_of, sym, up_to, ◌∙◌}
 use Rattle.lock_leasing.proofs.TouchCounts.{touched_by_set}
 use Rattle.lock_leasing.proofs.first_places.count_to_touched.Goals as goal
-use Rattle.lock_leasing.specs.Counts.{up_to}
-use Rattle.std.proofs.Common.{ap, sym, ◌∙◌}
 
 pub count_through-requires : goal.count_through-requires
 count_through-requires c = last_within _ c.args.line.now.marks c.in-Some.at (sym c.last_meeting.ensures ∙ c.in-Some.is)

@@ -1,10 +1,6 @@
-use Rattle.command_rules.specs.Rosters.{commands_of}
+use Rattle.lock_leasing.proofs.Prelude.{WindowParts, ap, commands_of, front_of, rules, up_to_touched, ◌∙◌}
 use Rattle.lock_leasing.proofs.Bindings.{first_is}
 use Rattle.lock_leasing.proofs.first_places.first_place.Goals as goal
-use Rattle.lock_leasing.specs.Counts.{up_to_touched}
-use Rattle.lock_leasing.specs.Standings.{WindowParts}
-use Rattle.serial_line.specs.Marks.{front_of}
-use Rattle.std.proofs.Common.{ap, rules, ◌∙◌}
 
 pub returns : goal.returns
 returns c =

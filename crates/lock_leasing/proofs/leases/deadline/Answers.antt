@@ -1,10 +1,6 @@
-use Rattle.lineage_table.specs.Accesses.{access_of}
-use Rattle.lineage_table.specs.Lineages.{accesses_at}
+use Rattle.lock_leasing.proofs.Prelude.{WindowParts, access_deadline, access_of, accesses_at, ap, sym, ◌∙◌}
 use Rattle.lock_leasing.proofs.Borrowers.{deadline_is, leased_found, may_reach_leased}
 use Rattle.lock_leasing.proofs.leases.deadline.Goals as goal
-use Rattle.lock_leasing.specs.Leases.{access_deadline}
-use Rattle.lock_leasing.specs.Standings.{WindowParts}
-use Rattle.std.proofs.Common.{ap, sym, ◌∙◌}
 
 pub unwrap-access-requires : goal.unwrap-access-requires
 unwrap-access-requires c =

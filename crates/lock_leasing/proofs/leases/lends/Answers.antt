@@ -1,7 +1,6 @@
 use Rattle.lock_leasing.proofs.Borrowers.{borrowed_is, unborrowed}
 use Rattle.lock_leasing.proofs.leases.lends.Goals as goal
-use Rattle.lock_leasing.specs.Leases.{IsBorrowedFrom}
-use Rattle.std.proofs.Common.{subst, sym}
+use Rattle.lock_leasing.proofs.Prelude.{IsBorrowedFrom, subst, sym}
 
 pub returns-clause-exact : goal.returns-clause-exact
 returns-clause-exact c =

@@ -1,7 +1,6 @@
 use Rattle.lock_leasing.proofs.Borrowers.{found_leases, overdue_none, overdue_some}
 use Rattle.lock_leasing.proofs.leases.overdue.Goals as goal
-use Rattle.lock_leasing.specs.Leases.{IsOverdueOf, access_is_overdue, placed_at}
-use Rattle.std.proofs.Common.{subst, sym, ◌∙◌}
+use Rattle.lock_leasing.proofs.Prelude.{IsOverdueOf, access_is_overdue, placed_at, subst, sym, ◌∙◌}
 
 pub returns-in_err-x : goal.returns-in_err-x
 returns-in_err-x c =

@@ -1,4 +1,4 @@
-use Rattle.command_rules.specs.Rosters.{commands_of, no_command, runs_of}
+use Rattle.lock_leasing.proofs.Prelude.{commands_of, no_command, runs_of}
 use Rattle.lock_leasing.proofs.Meetings.{item_same}
 use Rattle.lock_leasing.proofs.touches.command_at.Goals as goal
 

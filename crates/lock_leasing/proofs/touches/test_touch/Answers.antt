@@ -1,8 +1,6 @@
-use Rattle.command_rules.specs.Rosters.{command_at}
+use Rattle.lock_leasing.proofs.Prelude.{WindowParts, ap, command_at, sym, ◌∙◌}
 use Rattle.lock_leasing.proofs.Meetings.{met_holder, met_none, met_writer}
 use Rattle.lock_leasing.proofs.touches.test_touch.Goals as goal
-use Rattle.lock_leasing.specs.Standings.{WindowParts}
-use Rattle.std.proofs.Common.{ap, sym, ◌∙◌}
 
 pub returns-in-Some : goal.returns-in-Some
 returns-in-Some c = met_holder c.args.s.now c.args.r.0 c.args.c c.command_at-command.result c.in-Some.x (c.command_at-command.ensures ∙ ap (λ (p : WindowParts). command_at p.runs c.args.r.0 c.args.c) c.s.view_is) (sym c.in-Some.is ∙ c.first_holder.ensures)

@@ -1,8 +1,7 @@
 use Rattle.logged_calls.proofs.RecordBytes.{front_is}
 use Rattle.logged_calls.proofs.CallRecords.{read_civil}
 use Rattle.logged_calls.proofs.reading.front_call.Goals as goal
-use Rattle.logged_calls.specs.Records.{call_of}
-use Rattle.std.proofs.Common.{ap, arith, sym, ◌∙◌}
+use Rattle.logged_calls.proofs.Prelude.{ap, arith, call_of, sym, ◌∙◌}
 
 pub kept_invariant-requires : goal.kept_invariant-requires
 kept_invariant-requires c = record { time = read_civil c.in_front.result c.in-Some.call (sym c.call.ensures ∙ c.in-Some.is) }

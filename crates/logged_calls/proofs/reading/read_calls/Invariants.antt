@@ -1,7 +1,5 @@
 use Rattle.logged_calls.proofs.reading.read_calls.Given as goal
-use Rattle.logged_calls.specs.CallBytes.{calls_from}
-use Rattle.logged_calls.specs.Calls.{IsLoggable}
-use Rattle.std.proofs.Common.{All, drop, length, ◌++◌, ◌-◌, ◌≡◌, ◌≤◌}
+use Rattle.logged_calls.proofs.Prelude.{All, IsLoggable, calls_from, drop, length, ◌++◌, ◌-◌, ◌≡◌, ◌≤◌}
 
 abbrev pub invariant-calls : goal.invariant-calls
 invariant-calls l =

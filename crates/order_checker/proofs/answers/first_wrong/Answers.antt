@@ -1,10 +1,8 @@
 use Rattle.order_checker.proofs.Executions.{home-end, home-passed, routine-home, wrong-end, wrong-found, wrong-passed, wrong-start}
 use Rattle.order_checker.proofs.answers.first_wrong.Goals as goal
 use Rattle.order_checker.proofs.Executions.{home_from, wrong_from}
-use Rattle.home_types.specs.Commands.{Effect}
-use Rattle.home_types.specs.declared.kinds.Kind.{Kind}
+use Rattle.order_checker.proofs.Prelude.{Effect, Kind, List, ap, drop, length, length-set, map, sym, ◌+◌, ◌∙◌}
 use Rattle.serial_meaning.specs.Progress.{effect_of}
-use Rattle.std.proofs.Common.{List, ap, drop, length, length-set, map, sym, ◌+◌, ◌∙◌}
 
 pub returns-then-not-is_right-clause-some : goal.returns-then-not-is_right-clause-some
 returns-then-not-is_right-clause-some c =

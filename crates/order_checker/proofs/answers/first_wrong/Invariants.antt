@@ -1,6 +1,6 @@
 use Rattle.order_checker.proofs.Executions.{home_from, wrong_from}
 use Rattle.order_checker.proofs.answers.first_wrong.Given as goal
-use Rattle.std.proofs.Common.{drop, length, map, ◌≡◌}
+use Rattle.order_checker.proofs.Prelude.{drop, length, map, ◌≡◌}
 
 -- the commands so far answered as printed
 abbrev pub invariant-commands : goal.invariant-commands

@@ -1,10 +1,6 @@
-use Rattle.command_rules.specs.Rosters.{Run, runs_of}
-use Rattle.home_types.specs.declared.commands.Answer.{Answer}
-use Rattle.home_types.specs.declared.kinds.Kind.{Kind}
+use Rattle.order_checker.proofs.Prelude.{Answer, Kind, List, Option, Run, map, plain_ends, runs_of, ◌∙◌}
 use Rattle.order_checker.proofs.Orders.{behind-end, behind-right, behind-start, behind-wrong}
 use Rattle.order_checker.proofs.answers.home_behind.Goals as goal
-use Rattle.order_checker.specs.Ends.{plain_ends}
-use Rattle.std.proofs.Common.{List, Option, map, ◌∙◌}
 
 pub returns-in-Some-clause-behind : goal.returns-in-Some-clause-behind
 returns-in-Some-clause-behind c =

@@ -1,8 +1,6 @@
-use Rattle.command_rules.specs.Rosters.{runs_of}
+use Rattle.order_checker.proofs.Prelude.{drop, length, map, plain_ends, runs_of, ◌≡◌}
 use Rattle.order_checker.proofs.Orders.{behind_from}
 use Rattle.order_checker.proofs.answers.home_behind.Given as goal
-use Rattle.order_checker.specs.Ends.{plain_ends}
-use Rattle.std.proofs.Common.{drop, length, map, ◌≡◌}
 
 -- the items so far have nothing wrong
 abbrev pub invariant-items : goal.invariant-items

@@ -1,7 +1,5 @@
-use Rattle.command_rules.specs.Rosters.{commands_of, runs_of}
-use Rattle.home_types.specs.declared.commands.Command.{Command}
+use Rattle.order_checker.proofs.Prelude.{All, Command, commands_of, runs_of, subst, sym, ◌<◌}
 use Rattle.order_checker.proofs.answers.run_in.Goals as goal
-use Rattle.std.proofs.Common.{All, subst, sym, ◌<◌}
 
 pub first_wrong-requires-clause-devices : goal.first_wrong-requires-clause-devices
 first_wrong-requires-clause-devices c =

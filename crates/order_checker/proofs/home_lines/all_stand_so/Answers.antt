@@ -1,8 +1,7 @@
 use Rattle.order_checker.proofs.Passing.{device-off, device-so}
 use Rattle.order_checker.proofs.Walking.{walk-end}
 use Rattle.order_checker.proofs.home_lines.all_stand_so.Goals as goal
-use Rattle.order_checker.specs.HomeLines.{next_device_told}
-use Rattle.std.proofs.Common.{Ok, ap, arith, sym, ◌∙◌}
+use Rattle.order_checker.proofs.Prelude.{Ok, ap, arith, next_device_told, sym, ◌∙◌}
 
 pub returns-then-not-is_told : goal.returns-then-not-is_told
 returns-then-not-is_told c =

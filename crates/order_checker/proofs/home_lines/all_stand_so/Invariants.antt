@@ -1,7 +1,5 @@
 use Rattle.order_checker.proofs.home_lines.all_stand_so.Given as goal
-use Rattle.order_checker.specs.HomeLines.{next_device_told}
-use Rattle.order_checker.specs.Steps.{walk}
-use Rattle.std.proofs.Common.{drop, ◌≡◌}
+use Rattle.order_checker.proofs.Prelude.{drop, next_device_told, walk, ◌≡◌}
 
 -- the devices so far stand as they are told
 abbrev pub invariant-stands : goal.invariant-stands

@@ -1,10 +1,7 @@
 use Rattle.order_checker.proofs.Passing.{stand-passed, stand-refused}
 use Rattle.order_checker.proofs.Walking.{walk-end}
 use Rattle.order_checker.proofs.home_lines.read_each_stand.Goals as goal
-use Rattle.order_checker.specs.HomeLines.{next_stand}
-use Rattle.order_checker.specs.Steps.{walk}
-use Rattle.order_checker.specs.Words.{texts}
-use Rattle.std.proofs.Common.{ap, arith, drop, length-append, sym, ◌+◌, ◌∙◌}
+use Rattle.order_checker.proofs.Prelude.{ap, arith, drop, length-append, next_stand, sym, texts, walk, ◌+◌, ◌∙◌}
 
 pub returns-in_default : goal.returns-in_default
 returns-in_default c =

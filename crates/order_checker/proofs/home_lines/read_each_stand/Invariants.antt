@@ -1,8 +1,5 @@
 use Rattle.order_checker.proofs.home_lines.read_each_stand.Given as goal
-use Rattle.order_checker.specs.HomeLines.{next_stand}
-use Rattle.order_checker.specs.Steps.{walk}
-use Rattle.order_checker.specs.Words.{texts}
-use Rattle.std.proofs.Common.{[], drop, length, ◌≡◌}
+use Rattle.order_checker.proofs.Prelude.{[], drop, length, next_stand, texts, walk, ◌≡◌}
 
 -- where the devices so far stand
 abbrev pub invariant-devices : goal.invariant-devices

@@ -1,7 +1,6 @@
 use Rattle.order_checker.proofs.Notes.{split-first, split-whole}
 use Rattle.order_checker.proofs.lines.cut_line.Goals as goal
-use Rattle.std.proofs.Common.{None, Some, rules, ◌≡◌, ◌==◌}
-use Rattle.std.specs.List.{position}
+use Rattle.order_checker.proofs.Prelude.{None, Some, position, rules, ◌==◌, ◌≡◌}
 
 pub returns-in_err-end-clause-last : goal.returns-in_err-end-clause-last
 returns-in_err-end-clause-last c =

@@ -1,7 +1,6 @@
 use Rattle.order_checker.proofs.Notes.{last-ended, lines-line, lines-note}
 use Rattle.order_checker.proofs.lines.has_ended.Goals as goal
-use Rattle.order_checker.specs.Lines.{has_no_line, is_note}
-use Rattle.std.proofs.Common.{ap, sym, ◌||◌, ◌∙◌}
+use Rattle.order_checker.proofs.Prelude.{ap, has_no_line, is_note, sym, ◌||◌, ◌∙◌}
 
 pub returns-then-not-is_note : goal.returns-then-not-is_note
 returns-then-not-is_note c =

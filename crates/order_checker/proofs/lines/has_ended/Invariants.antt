@@ -1,6 +1,5 @@
 use Rattle.order_checker.proofs.lines.has_ended.Given as goal
-use Rattle.order_checker.specs.Lines.{lines_of}
-use Rattle.std.proofs.Common.{length, ◌≡◌}
+use Rattle.order_checker.proofs.Prelude.{length, lines_of, ◌≡◌}
 
 -- the notes so far are no lines
 abbrev pub invariant-notes : goal.invariant-notes

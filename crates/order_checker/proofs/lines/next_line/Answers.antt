@@ -1,7 +1,6 @@
 use Rattle.order_checker.proofs.Notes.{last-none, lines-line, lines-note}
 use Rattle.order_checker.proofs.lines.next_line.Goals as goal
-use Rattle.order_checker.specs.Lines.{line_at}
-use Rattle.std.proofs.Common.{ap, sym, ◌∙◌}
+use Rattle.order_checker.proofs.Prelude.{ap, line_at, sym, ◌∙◌}
 
 pub returns-then-not-is_note-clause-line : goal.returns-then-not-is_note-clause-line
 returns-then-not-is_note-clause-line c =

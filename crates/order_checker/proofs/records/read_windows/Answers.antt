@@ -1,9 +1,7 @@
 use Rattle.order_checker.proofs.Walking.{walk-end}
 use Rattle.order_checker.proofs.WindowSteps.{window-passed, window-refused, windows-stopped}
 use Rattle.order_checker.proofs.records.read_windows.Goals as goal
-use Rattle.order_checker.specs.Readers.{progress_told}
-use Rattle.order_checker.specs.Records.{next_window_told}
-use Rattle.std.proofs.Common.{arith, ◌+◌, ◌∙◌}
+use Rattle.order_checker.proofs.Prelude.{arith, next_window_told, progress_told, ◌+◌, ◌∙◌}
 
 pub returns-in-Err-clause-told : goal.returns-in-Err-clause-told
 returns-in-Err-clause-told c =

@@ -1,9 +1,6 @@
 use Rattle.home_types.specs.Limits.{most_runs}
 use Rattle.order_checker.proofs.records.read_windows.Given as goal
-use Rattle.order_checker.specs.Readers.{progress_told}
-use Rattle.order_checker.specs.Records.{next_window_told}
-use Rattle.order_checker.specs.Steps.{walk}
-use Rattle.std.proofs.Common.{drop, length, ◌*◌, ◌≡◌, ◌≤◌}
+use Rattle.order_checker.proofs.Prelude.{drop, length, next_window_told, progress_told, walk, ◌*◌, ◌≡◌, ◌≤◌}
 
 -- what was read of the windows so far
 abbrev pub invariant-windows : goal.invariant-windows

@@ -1,8 +1,5 @@
 use Rattle.order_checker.proofs.run_lines.read_each_answer.Given as goal
-use Rattle.order_checker.specs.RunLines.{next_answer}
-use Rattle.order_checker.specs.Steps.{walk}
-use Rattle.order_checker.specs.Words.{texts}
-use Rattle.std.proofs.Common.{[], drop, length, ◌≡◌}
+use Rattle.order_checker.proofs.Prelude.{[], drop, length, next_answer, texts, walk, ◌≡◌}
 
 -- the answers so far
 abbrev pub invariant-commands : goal.invariant-commands

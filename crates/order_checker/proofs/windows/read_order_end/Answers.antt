@@ -1,6 +1,6 @@
 use Rattle.order_checker.proofs.SoundRuns.{reader-stands}
 use Rattle.order_checker.proofs.windows.read_order_end.Goals as goal
-use Rattle.std.proofs.Common.{ap, length, ◌∙◌}
+use Rattle.order_checker.proofs.Prelude.{ap, length, ◌∙◌}
 
 pub read_order-requires : goal.read_order-requires
 read_order-requires c =

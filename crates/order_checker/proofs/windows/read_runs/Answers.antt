@@ -1,12 +1,8 @@
 use Rattle.order_checker.proofs.RunSteps.{run-passed, run-refused}
 use Rattle.order_checker.proofs.Walking.{told-answer, told-refused, walk-end}
 use Rattle.order_checker.proofs.windows.read_runs.Goals as goal
-use Rattle.order_checker.specs.Ends.{plain_end, plain_ends}
-use Rattle.order_checker.specs.Lines.{lines_of}
-use Rattle.order_checker.specs.Readers.{runs_told}
-use Rattle.order_checker.specs.Windows.{next_run_told}
+use Rattle.order_checker.proofs.Prelude.{arith, length, length-append, lines_of, next_run_told, plain_end, plain_ends, runs_told, ◌∙◌}
 use Rattle.order_checker.specs.declared.windows.RunLine.{RunLine}
-use Rattle.std.proofs.Common.{arith, length, length-append, ◌∙◌}
 
 pub returns-in_err-told-clause-told : goal.returns-in_err-told-clause-told
 returns-in_err-told-clause-told c =

@@ -1,9 +1,5 @@
 use Rattle.order_checker.proofs.windows.read_runs.Given as goal
-use Rattle.order_checker.specs.Ends.{plain_ends}
-use Rattle.order_checker.specs.Lines.{lines_of}
-use Rattle.order_checker.specs.Steps.{walk}
-use Rattle.order_checker.specs.Windows.{next_run_told}
-use Rattle.std.proofs.Common.{[], drop, length, ◌≡◌}
+use Rattle.order_checker.proofs.Prelude.{[], drop, length, lines_of, next_run_told, plain_ends, walk, ◌≡◌}
 
 -- how the runs so far ended, and what is left of the record
 abbrev pub invariant-runs : goal.invariant-runs

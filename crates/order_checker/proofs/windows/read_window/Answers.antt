@@ -1,7 +1,7 @@
 use Rattle.order_checker.proofs.SoundRuns.{window-few, window_sound}
 use Rattle.order_checker.proofs.windows.read_window.Goals as goal
 use Rattle.routine_reader.proofs.Cited.{routines-there}
-use Rattle.std.proofs.Common.{arith}
+use Rattle.order_checker.proofs.Prelude.{arith}
 
 pub read_runs-requires-clause-few : goal.read_runs-requires-clause-few
 read_runs-requires-clause-few c =

@@ -1,7 +1,6 @@
 use Rattle.order_checker.proofs.Numbers.{number-read, number-refused, numeral-utf8}
 use Rattle.order_checker.proofs.words.number_of.Goals as goal
-use Rattle.order_checker.specs.Words.{is_numeral}
-use Rattle.std.proofs.Common.{Err, Ok, subst, sym, true, ℕ, ◌≡◌}
+use Rattle.order_checker.proofs.Prelude.{Err, Ok, is_numeral, subst, sym, true, ℕ, ◌≡◌}
 use Rattle.std.specs.Str.Parse.{ParsesUnsigned}
 
 pub returns-in-Ok-parse : goal.returns-in-Ok-parse

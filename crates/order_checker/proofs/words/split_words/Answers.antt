@@ -1,9 +1,6 @@
 use Rattle.order_checker.proofs.Notes.{split-first, split-whole}
 use Rattle.order_checker.proofs.words.split_words.Goals as goal
-use Rattle.order_checker.specs.Words.{texts, words_of}
-use Rattle.std.proofs.Common.{None, Some, [], ap, append_assoc, arith, drop, length, rules, sym, take, ◌+◌, ◌-◌, ◌++◌, ◌∙◌, ◌≡◌, ◌==◌, ◌∷◌, ◌≤◌}
-use Rattle.std.proofs.lemmas.List.{length-drop, length-take, map-append}
-use Rattle.std.specs.List.{position}
+use Rattle.order_checker.proofs.Prelude.{None, Some, [], ap, append_assoc, arith, drop, length, length-drop, length-take, map-append, position, rules, sym, take, texts, words_of, ◌++◌, ◌+◌, ◌-◌, ◌==◌, ◌∙◌, ◌∷◌, ◌≡◌, ◌≤◌}
 
 pub words-preserved : goal.words-preserved
 words-preserved c =

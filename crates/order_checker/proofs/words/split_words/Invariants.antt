@@ -1,6 +1,5 @@
 use Rattle.order_checker.proofs.words.split_words.Given as goal
-use Rattle.order_checker.specs.Words.{texts, words_of}
-use Rattle.std.proofs.Common.{length, ◌++◌, ◌≡◌, ◌≤◌}
+use Rattle.order_checker.proofs.Prelude.{length, texts, words_of, ◌++◌, ◌≡◌, ◌≤◌}
 
 -- the words so far, and those of what is left
 abbrev pub invariant-words : goal.invariant-words

@@ -1,10 +1,7 @@
-use Rattle.history_book.specs.declared.records.WindowRecord.{WindowRecord}
+use Rattle.printed_records.proofs.Prelude.{WindowRecord, ap, are_small, list_all, sym, ◌∙◌}
 use Rattle.printed_records.proofs.LegalDays.{legal_agrees}
 use Rattle.printed_records.proofs.SmallCauses.{held_small}
 use Rattle.printed_records.proofs.held_days.held_day_agrees.Goals as goal
-use Rattle.printed_records.specs.SmallTimes.{are_small}
-use Rattle.std.proofs.Common.{ap, sym, ◌∙◌}
-use Rattle.std.specs.List.{list_all}
 
 pub returns : goal.returns
 returns c =

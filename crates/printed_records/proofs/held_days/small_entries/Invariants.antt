@@ -1,6 +1,5 @@
 use Rattle.printed_records.proofs.held_days.small_entries.Given as goal
-use Rattle.printed_records.specs.SmallTimes.{are_small}
-use Rattle.std.proofs.Common.{take, true, ◌≡◌}
+use Rattle.printed_records.proofs.Prelude.{are_small, take, true, ◌≡◌}
 
 -- the entries so far have small times
 abbrev pub invariant-entries : goal.invariant-entries

@@ -1,8 +1,5 @@
-use Rattle.history_book.specs.declared.records.WindowRecord.{WindowRecord}
+use Rattle.printed_records.proofs.Prelude.{WindowRecord, are_small, list_all, take, true, ◌≡◌}
 use Rattle.printed_records.proofs.held_days.small_times.Given as goal
-use Rattle.printed_records.specs.SmallTimes.{are_small}
-use Rattle.std.proofs.Common.{take, true, ◌≡◌}
-use Rattle.std.specs.List.{list_all}
 
 -- the records so far have small times
 abbrev pub invariant-records : goal.invariant-records

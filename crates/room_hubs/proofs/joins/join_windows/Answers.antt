@@ -1,6 +1,6 @@
 use Rattle.room_hubs.proofs.JoinedOrders.{join_next}
 use Rattle.room_hubs.proofs.joins.join_windows.Goals as goal
-use Rattle.std.proofs.Common.{arith, length, ◌<◌, ◌∙◌}
+use Rattle.room_hubs.proofs.Prelude.{arith, length, ◌<◌, ◌∙◌}
 
 pub windows-preserved : goal.windows-preserved
 windows-preserved c =

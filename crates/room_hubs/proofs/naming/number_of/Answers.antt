@@ -1,7 +1,7 @@
 use Rattle.room_hubs.proofs.Names.{known_room, new_number, new_room}
 use Rattle.room_hubs.proofs.naming.number_of.Goals as goal
 use Rattle.routine_reader.specs.Names.{place_of}
-use Rattle.std.proofs.Common.{[], ap, ◌++◌, ◌∙◌, ◌∷◌}
+use Rattle.room_hubs.proofs.Prelude.{[], ap, ◌++◌, ◌∙◌, ◌∷◌}
 
 pub returns-in-Some-clause-names : goal.returns-in-Some-clause-names
 returns-in-Some-clause-names c =

@@ -1,7 +1,6 @@
 use Rattle.room_hubs.proofs.Names.{rooms_next, names_few}
 use Rattle.room_hubs.proofs.naming.rooms_among.Goals as goal
-use Rattle.room_hubs.specs.Rooms.{room_name}
-use Rattle.std.proofs.Common.{ap, arith, length, ◌<◌, ◌∙◌}
+use Rattle.room_hubs.proofs.Prelude.{ap, arith, length, room_name, ◌<◌, ◌∙◌}
 
 pub devices-preserved : goal.devices-preserved
 devices-preserved c =

@@ -1,6 +1,5 @@
 use Rattle.room_hubs.proofs.naming.rooms_among.Given as goal
-use Rattle.room_hubs.specs.Rooms.{no_rooms, room_name, with_device}
-use Rattle.std.proofs.Common.{fold, length, map, take, ◌≡◌, ◌≤◌}
+use Rattle.room_hubs.proofs.Prelude.{fold, length, map, no_rooms, room_name, take, with_device, ◌≡◌, ◌≤◌}
 
 abbrev pub invariant-devices : goal.invariant-devices
 invariant-devices l =

@@ -1,7 +1,6 @@
 use Rattle.room_hubs.proofs.Loops.{seen_none, seen_some}
 use Rattle.room_hubs.proofs.numbers.own_run_no.Goals as goal
-use Rattle.std.proofs.Common.{ap, sym, ◌==◌, ◌+◌}
-use Rattle.command_rules.specs.Rosters.{run_no}
+use Rattle.room_hubs.proofs.Prelude.{ap, run_no, sym, ◌+◌, ◌==◌}
 
 pub returns-in-Some : goal.returns-in-Some
 returns-in-Some c =

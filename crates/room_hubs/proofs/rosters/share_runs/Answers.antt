@@ -1,9 +1,6 @@
-use Rattle.command_rules.specs.Rosters.{plain_run}
-use Rattle.command_rules.specs.declared.rosters.RosterRun.{RosterRun}
+use Rattle.room_hubs.proofs.Prelude.{RosterRun, [], ap, arith, length, map, map-append, plain_run, sym, take, ◌++◌, ◌<◌, ◌∙◌, ◌∷◌, ◌≡◌}
 use Rattle.room_hubs.proofs.Loops.{next_mapped}
 use Rattle.room_hubs.proofs.rosters.share_runs.Goals as goal
-use Rattle.std.proofs.Common.{[], ap, arith, length, map, sym, take, ◌++◌, ◌<◌, ◌∙◌, ◌≡◌, ◌∷◌}
-use Rattle.std.proofs.lemmas.List.{map-append}
 
 pub runs-preserved : goal.runs-preserved
 runs-preserved c =

@@ -1,11 +1,6 @@
-use Rattle.home_types.specs.declared.numbers.DeviceNo.{DeviceNo}
+use Rattle.room_hubs.proofs.Prelude.{DeviceNo, DeviceText, List, ap, arith, map, no_device_text, plain_device, slice_index_or, sym, ℕ, ◌∙◌}
 use Rattle.room_hubs.proofs.Loops.{all_mapped, map_map}
 use Rattle.room_hubs.proofs.scripts.copy_devices.Goals as goal
-use Rattle.room_hubs.specs.RoomScripts.{no_device_text}
-use Rattle.routine_reader.specs.Scripts.{plain_device}
-use Rattle.routine_reader.specs.declared.scripts.DeviceText.{DeviceText}
-use Rattle.std.proofs.Common.{List, ap, arith, map, sym, ℕ, ◌∙◌}
-use Rattle.std.specs.Prelude.{slice_index_or}
 
 pub returns : goal.returns
 returns c =

@@ -1,12 +1,7 @@
 use Rattle.room_hubs.proofs.OwnSound.{number_there, own_sound}
 use Rattle.room_hubs.proofs.Sizes.{rooms_few}
 use Rattle.room_hubs.proofs.scripts.room_script.Goals as goal
-use Rattle.room_hubs.specs.Rooms.{PlainRooms}
-use Rattle.room_hubs.specs.Splits.{devices_in}
-use Rattle.room_hubs.specs.RoomScripts.{devices_at, plain_devices}
-use Rattle.room_hubs.specs.Numbers.{numbers_of_devices}
-use Rattle.std.proofs.Common.{ap, arith, length, subst, sym, ◌<◌, ◌∙◌}
-use Rattle.std.specs.Prelude.{slice_index_or}
+use Rattle.room_hubs.proofs.Prelude.{PlainRooms, ap, arith, devices_at, devices_in, length, numbers_of_devices, plain_devices, slice_index_or, subst, sym, ◌<◌, ◌∙◌}
 
 pub devices_in-requires : goal.devices_in-requires
 devices_in-requires c =

@@ -1,6 +1,6 @@
 use Rattle.room_hubs.proofs.Found.{commands_found, looked_at, looked_past}
 use Rattle.room_hubs.proofs.splits.commands_of.Goals as goal
-use Rattle.std.proofs.Common.{None, Some, arith, ◌-◌, ◌∙◌}
+use Rattle.room_hubs.proofs.Prelude.{None, Some, arith, ◌-◌, ◌∙◌}
 
 pub returns-in-Some : goal.returns-in-Some
 returns-in-Some c =

@@ -1,9 +1,7 @@
-use Rattle.command_rules.specs.Rosters.{Run, plain_run}
+use Rattle.room_hubs.proofs.Prelude.{List, Run, ap, crosses, crosses_rooms, false, map, plain_run, sym, true, ◌∙◌}
 use Rattle.room_hubs.proofs.Found.{fault_is, no_fault}
 use Rattle.room_hubs.proofs.splits.cross_fault.Goals as goal
-use Rattle.room_hubs.specs.Splits.{crosses, crosses_rooms}
 use Rattle.routine_reader.proofs.Cited.{position-map}
-use Rattle.std.proofs.Common.{List, ap, false, map, sym, true, ◌∙◌}
 
 pub returns-then-crosses_rooms : goal.returns-then-crosses_rooms
 returns-then-crosses_rooms c =

@@ -1,13 +1,7 @@
-use Rattle.command_rules.specs.Rosters.{device_no}
+use Rattle.room_hubs.proofs.Prelude.{Bool, [], ap, append-nil, arith, device_no, device_room, false, filter, length, map-append, numbers_of_devices, range_with_len, rules, sym, take, true, ℕ, ◌++◌, ◌+◌, ◌<◌, ◌==◌, ◌∙◌, ◌∷◌, ◌≡◌}
 use Rattle.room_hubs.proofs.Loops.{all_numbers, next_number}
 use Rattle.room_hubs.proofs.splits.devices_in.Goals as goal
 use Rattle.room_hubs.proofs.splits.devices_in.Goals.{else-room_of-d, then-room_of-d+in_ok-push}
-use Rattle.room_hubs.specs.Numbers.{numbers_of_devices}
-use Rattle.room_hubs.specs.Splits.{device_room}
-use Rattle.std.proofs.Common.{Bool, [], ap, arith, false, length, rules, sym, take, true, ℕ, ◌+◌, ◌++◌, ◌<◌, ◌==◌, ◌∙◌, ◌≡◌, ◌∷◌}
-use Rattle.std.proofs.lemmas.List.{append-nil, map-append}
-use Rattle.std.specs.List.{range_with_len}
-use Rattle.std.specs.Prelude.{filter}
 
 pub devices-preserved : goal.devices-preserved
 devices-preserved c =

@@ -1,7 +1,6 @@
 use Rattle.room_hubs.proofs.Loops.{next_mapped}
 use Rattle.room_hubs.proofs.splits.own_commands.Goals as goal
-use Rattle.room_hubs.specs.Numbers.{numbers_of_devices, own_command}
-use Rattle.std.proofs.Common.{[], arith, length, sym, ◌++◌, ◌<◌, ◌∙◌, ◌∷◌}
+use Rattle.room_hubs.proofs.Prelude.{[], arith, length, numbers_of_devices, own_command, sym, ◌++◌, ◌<◌, ◌∙◌, ◌∷◌}
 
 pub commands-preserved : goal.commands-preserved
 commands-preserved c =

@@ -1,12 +1,7 @@
-use Rattle.command_rules.specs.Rosters.{Run, plain_run, run_no}
-use Rattle.home_types.specs.declared.numbers.RunNo.{RunNo}
+use Rattle.room_hubs.proofs.Prelude.{List, Run, RunNo, [], ap, arith, get_or, length, map, map-append, numbers_of_devices, numbers_of_runs, own_run, plain_run, run_no, run_with, sym, ◌++◌, ◌<◌, ◌∙◌, ◌∷◌, ◌≡◌}
 use Rattle.room_hubs.proofs.Loops.{all_mapped, map_map, next_mapped}
 use Rattle.room_hubs.proofs.Sizes.{run_there}
 use Rattle.room_hubs.proofs.splits.own_roster.Goals as goal
-use Rattle.room_hubs.specs.Numbers.{numbers_of_devices, numbers_of_runs, own_run}
-use Rattle.room_hubs.specs.Splits.{run_with}
-use Rattle.std.proofs.Common.{List, [], ap, arith, get_or, length, map, sym, ◌++◌, ◌<◌, ◌∙◌, ◌≡◌, ◌∷◌}
-use Rattle.std.proofs.lemmas.List.{map-append}
 
 pub mine-preserved : goal.mine-preserved
 mine-preserved c =

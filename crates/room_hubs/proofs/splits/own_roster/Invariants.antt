@@ -1,8 +1,5 @@
-use Rattle.command_rules.specs.Rosters.{plain_run}
+use Rattle.room_hubs.proofs.Prelude.{map, numbers_of_devices, numbers_of_runs, own_run, plain_run, run_with, take, ◌≡◌}
 use Rattle.room_hubs.proofs.splits.own_roster.Given as goal
-use Rattle.room_hubs.specs.Numbers.{numbers_of_devices, numbers_of_runs, own_run}
-use Rattle.room_hubs.specs.Splits.{run_with}
-use Rattle.std.proofs.Common.{map, take, ◌≡◌}
 
 abbrev pub invariant-mine : goal.invariant-mine
 invariant-mine l =

@@ -1,6 +1,6 @@
 use Rattle.room_hubs.proofs.Sizes.{room_devices_few, room_runs_few, room_runs_there}
 use Rattle.room_hubs.proofs.splits.room_roster.Goals as goal
-use Rattle.std.proofs.Common.{All, ap, arith, length, subst, sym, ◌≤◌}
+use Rattle.room_hubs.proofs.Prelude.{All, ap, arith, length, subst, sym, ◌≤◌}
 
 pub own_roster-requires-clause-devices : goal.own_roster-requires-clause-devices
 own_roster-requires-clause-devices c =

@@ -1,12 +1,6 @@
-use Rattle.command_rules.specs.Rosters.{plain_run}
+use Rattle.room_hubs.proofs.Prelude.{Room, [], ap, arith, get_or-range_with_len, length, length-range_with_len, map, map-append, plain_room, plain_run, range_with_len, room_at, sym, take, ℕ, ◌++◌, ◌+◌, ◌<◌, ◌∙◌, ◌∷◌, ◌≡◌}
 use Rattle.room_hubs.proofs.Loops.{all_mapped, next_mapped}
 use Rattle.room_hubs.proofs.splits.room_rosters.Goals as goal
-use Rattle.room_hubs.specs.Numbers.{Room, plain_room}
-use Rattle.room_hubs.specs.Splits.{room_at}
-use Rattle.std.proofs.Common.{[], ap, arith, length, map, sym, take, ℕ, ◌+◌, ◌++◌, ◌<◌, ◌∙◌, ◌≡◌, ◌∷◌}
-use Rattle.std.proofs.lemmas.List.FromFn.{get_or-range_with_len, length-range_with_len}
-use Rattle.std.proofs.lemmas.List.{map-append}
-use Rattle.std.specs.List.{range_with_len}
 
 pub rooms-preserved : goal.rooms-preserved
 rooms-preserved c =

@@ -1,9 +1,5 @@
-use Rattle.command_rules.specs.Rosters.{plain_run}
+use Rattle.room_hubs.proofs.Prelude.{length, map, plain_room, plain_run, range_with_len, room_at, take, ◌≡◌}
 use Rattle.room_hubs.proofs.splits.room_rosters.Given as goal
-use Rattle.room_hubs.specs.Numbers.{plain_room}
-use Rattle.room_hubs.specs.Splits.{room_at}
-use Rattle.std.proofs.Common.{length, map, take, ◌≡◌}
-use Rattle.std.specs.List.{range_with_len}
 
 abbrev pub invariant-rooms : goal.invariant-rooms
 invariant-rooms l =

@@ -1,13 +1,7 @@
-use Rattle.command_rules.specs.Rosters.{Run, commands_of, plain_run, run_no}
+use Rattle.room_hubs.proofs.Prelude.{Bool, List, Run, [], ap, append-nil, arith, commands_of, false, filter, length, length-map, map, map-append, numbers_of_runs, plain_run, range_with_len, rules, run_no, run_room, sym, take, true, ℕ, ◌++◌, ◌+◌, ◌<◌, ◌==◌, ◌∙◌, ◌∷◌, ◌≡◌}
 use Rattle.room_hubs.proofs.Loops.{all_numbers, next_number}
 use Rattle.room_hubs.proofs.splits.runs_in.Goals as goal
 use Rattle.room_hubs.proofs.splits.runs_in.Goals.{else-here-room, then-here-room+in_ok-push}
-use Rattle.room_hubs.specs.Numbers.{numbers_of_runs}
-use Rattle.room_hubs.specs.Splits.{run_room}
-use Rattle.std.proofs.Common.{Bool, List, [], ap, arith, false, length, map, rules, sym, take, true, ℕ, ◌+◌, ◌++◌, ◌<◌, ◌==◌, ◌∙◌, ◌≡◌, ◌∷◌}
-use Rattle.std.proofs.lemmas.List.{append-nil, length-map, map-append}
-use Rattle.std.specs.List.{range_with_len}
-use Rattle.std.specs.Prelude.{filter}
 
 pub runs-preserved : goal.runs-preserved
 runs-preserved c =

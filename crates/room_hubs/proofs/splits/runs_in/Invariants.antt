@@ -1,10 +1,5 @@
-use Rattle.command_rules.specs.Rosters.{commands_of, plain_run}
+use Rattle.room_hubs.proofs.Prelude.{commands_of, filter, length, map, numbers_of_runs, plain_run, range_with_len, run_room, take, ◌==◌, ◌≡◌}
 use Rattle.room_hubs.proofs.splits.runs_in.Given as goal
-use Rattle.room_hubs.specs.Numbers.{numbers_of_runs}
-use Rattle.room_hubs.specs.Splits.{run_room}
-use Rattle.std.proofs.Common.{length, map, take, ◌==◌, ◌≡◌}
-use Rattle.std.specs.List.{range_with_len}
-use Rattle.std.specs.Prelude.{filter}
 
 abbrev pub invariant-runs : goal.invariant-runs
 invariant-runs l =

@@ -1,10 +1,6 @@
-use Rattle.command_rules.specs.Rosters.{plain_run}
-use Rattle.home_types.specs.Limits.{most_devices}
+use Rattle.room_hubs.proofs.Prelude.{PlainRooms, ap, arith, length, length-map, most_devices, plain_run, subst, sym, ◌≤◌}
 use Rattle.room_hubs.proofs.Sizes.{rooms_few, runs_few}
 use Rattle.room_hubs.proofs.splits.split.Goals as goal
-use Rattle.room_hubs.specs.Rooms.{PlainRooms}
-use Rattle.std.proofs.Common.{ap, arith, length, subst, sym, ◌≤◌}
-use Rattle.std.proofs.lemmas.List.{length-map}
 
 pub split_runs-rosters-requires-clause-names : goal.split_runs-rosters-requires-clause-names
 split_runs-rosters-requires-clause-names c =

@@ -1,12 +1,6 @@
-use Rattle.home_types.specs.declared.worlds.Stand.{Stand}
+use Rattle.room_hubs.proofs.Prelude.{Stand, [], ap, arith, device_room, get_or, get_or-range_with_len, last_of_room, length, length-range_with_len, map, range_with_len, slice_index_or, stand_in, sym, ℕ, ◌++◌, ◌+◌, ◌<◌, ◌∙◌, ◌∷◌, ◌≡◌}
 use Rattle.room_hubs.proofs.Loops.{all_mapped, next_mapped}
 use Rattle.room_hubs.proofs.told_windows.joined_home.Goals as goal
-use Rattle.room_hubs.specs.Splits.{device_room}
-use Rattle.room_hubs.specs.ToldWindows.{last_of_room, stand_in}
-use Rattle.std.proofs.Common.{[], ap, arith, get_or, length, map, sym, ℕ, ◌+◌, ◌++◌, ◌<◌, ◌∙◌, ◌∷◌, ◌≡◌}
-use Rattle.std.proofs.lemmas.List.FromFn.{get_or-range_with_len, length-range_with_len}
-use Rattle.std.specs.List.{range_with_len}
-use Rattle.std.specs.Prelude.{slice_index_or}
 
 pub devices-preserved : goal.devices-preserved
 devices-preserved c =

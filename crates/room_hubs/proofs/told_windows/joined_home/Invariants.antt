@@ -1,9 +1,5 @@
 use Rattle.room_hubs.proofs.told_windows.joined_home.Given as goal
-use Rattle.room_hubs.specs.Splits.{device_room}
-use Rattle.room_hubs.specs.ToldWindows.{last_of_room, stand_in}
-use Rattle.std.proofs.Common.{[], length, map, take, ◌≡◌}
-use Rattle.std.specs.List.{range_with_len}
-use Rattle.std.specs.Prelude.{slice_index_or}
+use Rattle.room_hubs.proofs.Prelude.{[], device_room, last_of_room, length, map, range_with_len, slice_index_or, stand_in, take, ◌≡◌}
 
 abbrev pub invariant-devices : goal.invariant-devices
 invariant-devices l =

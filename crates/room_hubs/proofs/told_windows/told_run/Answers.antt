@@ -1,6 +1,6 @@
 use Rattle.room_hubs.proofs.Found.{told_at}
 use Rattle.room_hubs.proofs.told_windows.told_run.Goals as goal
-use Rattle.std.proofs.Common.{arith}
+use Rattle.room_hubs.proofs.Prelude.{arith}
 
 pub returns-in-Some : goal.returns-in-Some
 returns-in-Some c =

@@ -1,13 +1,7 @@
 use Rattle.routine_reader.proofs.GivenLemmas.{kept-last, known-middle}
 use Rattle.routine_reader.proofs.commands.given_members.Goals as goal
-use Rattle.routine_reader.specs.Commands.{command_form}
-use Rattle.routine_reader.specs.Forms.{knows, names_of}
-use Rattle.routine_reader.specs.GivenMembers.{with_member}
-use Rattle.serde_json.proofs.Views.{Entry}
-use Rattle.serde_json.specs.View.{members_view, view}
-use Rattle.std.proofs.Common.{[], ap, append_assoc, false, rules, string_bytes, string_cmp, subst, sym, true, ◌&&◌, ◌++◌, ◌∙◌, ◌≡◌, ◌∷◌}
+use Rattle.routine_reader.proofs.Prelude.{Entry, [], ap, append_assoc, command_form, false, knows, list_all, members_view, names_of, rules, string_bytes, string_cmp, subst, sym, true, view, with_member, ◌&&◌, ◌++◌, ◌∙◌, ◌∷◌, ◌≡◌}
 use Rattle.std.specs.List.Sorted.{IsStrictlySortedBy}
-use Rattle.std.specs.List.{list_all}
 use Rattle.std.specs.Map.{keys_of}
 
 pub returns-then-not-keep-clause-known : goal.returns-then-not-keep-clause-known

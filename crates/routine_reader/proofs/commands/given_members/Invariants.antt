@@ -1,11 +1,5 @@
 use Rattle.routine_reader.proofs.commands.given_members.Given as goal
-use Rattle.routine_reader.specs.Commands.{command_form}
-use Rattle.routine_reader.specs.Forms.{knows, names_of}
-use Rattle.routine_reader.specs.GivenMembers.{given_of, given_in}
-use Rattle.serde_json.proofs.Views.{Entry}
-use Rattle.serde_json.specs.View.{members_view}
-use Rattle.std.proofs.Common.{List, true, ◌++◌, ◌≡◌}
-use Rattle.std.specs.List.{list_all}
+use Rattle.routine_reader.proofs.Prelude.{Entry, List, command_form, given_in, given_of, knows, list_all, members_view, names_of, true, ◌++◌, ◌≡◌}
 
 -- the members so far are those of a command of this version, and are kept
 abbrev pub invariant-members : goal.invariant-members

@@ -1,14 +1,6 @@
-use Rattle.home_types.specs.Limits.{most_states}
+use Rattle.routine_reader.proofs.Prelude.{All-append, All-cons, All-nil, Err, Ok, [], ap, arith, device_names, drop, false, is_memory, length, length-append, length-map, map, map-append, most_states, next_device_read, plain_device, read_each, rules, sym, view, ◌++◌, ◌+◌, ◌∙◌, ◌∷◌, ◌≡◌, ◌≤◌}
 use Rattle.routine_reader.proofs.WalkLemmas.{each-end, each-read, each-refused, walk-refused}
 use Rattle.routine_reader.proofs.devices.read_devices.Goals as goal
-use Rattle.routine_reader.specs.Devices.{device_names, next_device_read}
-use Rattle.routine_reader.specs.Scripts.{plain_device}
-use Rattle.routine_reader.specs.Spots.{is_memory}
-use Rattle.routine_reader.specs.Walks.{read_each}
-use Rattle.serde_json.specs.View.{view}
-use Rattle.std.proofs.Common.{Err, Ok, [], ap, arith, drop, false, length, length-append, map, rules, sym, ◌+◌, ◌++◌, ◌∙◌, ◌≡◌, ◌≤◌, ◌∷◌}
-use Rattle.std.proofs.lemmas.List.Elements.{All-append, All-cons, All-nil}
-use Rattle.std.proofs.lemmas.List.{length-map, map-append}
 
 pub returns-in_err-device-clause-reading : goal.returns-in_err-device-clause-reading
 returns-in_err-device-clause-reading c =

@@ -1,11 +1,5 @@
-use Rattle.home_types.specs.Limits.{most_states}
+use Rattle.routine_reader.proofs.Prelude.{All, [], device_names, drop, length, map, most_states, next_device_read, plain_device, read_each, view, ◌≡◌, ◌≤◌}
 use Rattle.routine_reader.proofs.devices.read_devices.Given as goal
-use Rattle.routine_reader.specs.Devices.{device_names, next_device_read}
-use Rattle.routine_reader.specs.Scripts.{plain_device}
-use Rattle.routine_reader.specs.Walks.{read_each}
-use Rattle.serde_json.specs.View.{view}
-use Rattle.std.specs.Prelude.{All, ◌≤◌}
-use Rattle.std.proofs.Common.{[], drop, length, map, ◌≡◌}
 
 abbrev pub invariant-values : goal.invariant-values
 invariant-values l =

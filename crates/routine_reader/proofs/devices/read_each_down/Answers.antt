@@ -1,9 +1,6 @@
 use Rattle.routine_reader.proofs.WalkLemmas.{each-end, each-read, each-refused, walk-refused}
 use Rattle.routine_reader.proofs.devices.read_each_down.Goals as goal
-use Rattle.routine_reader.specs.Devices.{next_down}
-use Rattle.routine_reader.specs.Walks.{read_each}
-use Rattle.serde_json.specs.View.{view}
-use Rattle.std.proofs.Common.{Err, Ok, ap, arith, drop, length-append, map, rules, sym, ◌+◌, ◌∙◌, ◌≡◌}
+use Rattle.routine_reader.proofs.Prelude.{Err, Ok, ap, arith, drop, length-append, map, next_down, read_each, rules, sym, view, ◌+◌, ◌∙◌, ◌≡◌}
 
 pub returns-in_err-down : goal.returns-in_err-down
 returns-in_err-down c =

@@ -1,8 +1,5 @@
 use Rattle.routine_reader.proofs.devices.read_each_down.Given as goal
-use Rattle.routine_reader.specs.Devices.{next_down}
-use Rattle.routine_reader.specs.Walks.{read_each}
-use Rattle.serde_json.specs.View.{view}
-use Rattle.std.proofs.Common.{[], drop, length, map, ◌≡◌}
+use Rattle.routine_reader.proofs.Prelude.{[], drop, length, map, next_down, read_each, view, ◌≡◌}
 
 abbrev pub invariant-values : goal.invariant-values
 invariant-values l =

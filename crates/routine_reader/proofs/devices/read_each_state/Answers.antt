@@ -1,10 +1,6 @@
 use Rattle.routine_reader.proofs.WalkLemmas.{each-end, each-read, each-refused, walk-refused}
 use Rattle.routine_reader.proofs.devices.read_each_state.Goals as goal
-use Rattle.routine_reader.specs.Devices.{state_name}
-use Rattle.routine_reader.specs.Spots.{is_memory}
-use Rattle.routine_reader.specs.Walks.{read_each}
-use Rattle.serde_json.specs.View.{view}
-use Rattle.std.proofs.Common.{Err, Ok, [], ap, arith, drop, false, length-append, map, rules, sym, ◌+◌, ◌++◌, ◌∙◌, ◌≡◌, ◌∷◌}
+use Rattle.routine_reader.proofs.Prelude.{Err, Ok, [], ap, arith, drop, false, is_memory, length-append, map, read_each, rules, state_name, sym, view, ◌++◌, ◌+◌, ◌∙◌, ◌∷◌, ◌≡◌}
 
 pub returns-in_err-name-clause-reading : goal.returns-in_err-name-clause-reading
 returns-in_err-name-clause-reading c =

@@ -1,8 +1,5 @@
 use Rattle.routine_reader.proofs.devices.read_each_state.Given as goal
-use Rattle.routine_reader.specs.Devices.{state_name}
-use Rattle.routine_reader.specs.Walks.{read_each}
-use Rattle.serde_json.specs.View.{view}
-use Rattle.std.proofs.Common.{[], drop, length, map, ◌≡◌}
+use Rattle.routine_reader.proofs.Prelude.{[], drop, length, map, read_each, state_name, view, ◌≡◌}
 
 abbrev pub invariant-values : goal.invariant-values
 invariant-values l =

@@ -1,11 +1,6 @@
 use Rattle.routine_reader.proofs.FormLemmas.{names-all}
 use Rattle.routine_reader.proofs.forms.has_form.Goals as goal
-use Rattle.routine_reader.specs.Forms.{knows, names_of}
-use Rattle.serde_json.specs.Find.{as_object}
-use Rattle.serde_json.specs.View.{members_view, view}
-use Rattle.std.proofs.Common.{Some, ap, false, rules, ◌∙◌, ◌≡◌}
-use Rattle.std.specs.List.{list_all}
-use Rattle.std.specs.Option.{option_map_or}
+use Rattle.routine_reader.proofs.Prelude.{Some, ap, as_object, false, knows, list_all, members_view, names_of, option_map_or, rules, view, ◌∙◌, ◌≡◌}
 
 pub returns-in-Some : goal.returns-in-Some
 returns-in-Some c =

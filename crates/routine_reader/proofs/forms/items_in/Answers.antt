@@ -1,9 +1,6 @@
 use Rattle.routine_reader.proofs.FormLemmas.{items-list}
 use Rattle.routine_reader.proofs.forms.items_in.Goals as goal
-use Rattle.routine_reader.specs.Forms.{list_of}
-use Rattle.serde_json.specs.Find.{as_array}
-use Rattle.serde_json.specs.View.{items_view, view}
-use Rattle.std.proofs.Common.{Some, ap, map, option_map, rules, sym, ◌∙◌, ◌≡◌}
+use Rattle.routine_reader.proofs.Prelude.{Some, ap, as_array, items_view, list_of, map, option_map, rules, sym, view, ◌∙◌, ◌≡◌}
 
 pub returns-in-Some : goal.returns-in-Some
 returns-in-Some c =

@@ -1,7 +1,6 @@
 use Rattle.routine_reader.proofs.RosterLemmas.{few_kinds}
 use Rattle.routine_reader.proofs.homes.script_kinds.Goals as goal
-use Rattle.std.proofs.Common.{ap, map, sym, ◌∙◌}
-use Rattle.std.proofs.lemmas.List.{take_all}
+use Rattle.routine_reader.proofs.Prelude.{ap, map, sym, take_all, ◌∙◌}
 
 -- all of them
 pub returns-clause-few : goal.returns-clause-few

@@ -1,5 +1,5 @@
 use Rattle.routine_reader.proofs.homes.script_kinds.Given as goal
-use Rattle.std.proofs.Common.{map, take, ◌≡◌}
+use Rattle.routine_reader.proofs.Prelude.{map, take, ◌≡◌}
 
 -- the kinds of the devices up to here
 abbrev pub invariant-texts : goal.invariant-texts

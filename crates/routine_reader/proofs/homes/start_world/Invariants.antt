@@ -1,6 +1,5 @@
 use Rattle.routine_reader.proofs.homes.start_world.Given as goal
-use Rattle.routine_reader.specs.Rosters.{start_stand}
-use Rattle.std.proofs.Common.{map, take, ◌≡◌}
+use Rattle.routine_reader.proofs.Prelude.{map, start_stand, take, ◌≡◌}
 
 -- the devices up to here are up at their starts
 abbrev pub invariant-texts : goal.invariant-texts

@@ -1,10 +1,6 @@
-use Rattle.home_types.specs.Limits.{most_devices, most_routines, most_windows}
+use Rattle.routine_reader.proofs.Prelude.{DayMembers, length, length-map, map, most_devices, most_routines, most_windows, rules, view, ◌≤◌}
 use Rattle.routine_reader.proofs.ScriptSound.{answer-sound}
 use Rattle.routine_reader.proofs.readers.read_members.Goals as goal
-use Rattle.routine_reader.specs.Readings.{DayMembers}
-use Rattle.serde_json.specs.View.{view}
-use Rattle.std.proofs.Common.{length, map, rules, ◌≤◌}
-use Rattle.std.proofs.lemmas.List.{length-map}
 
 pub returns-clause-sound : goal.returns-clause-sound
 returns-clause-sound c =

@@ -1,7 +1,6 @@
 use Rattle.routine_reader.proofs.ReadingLemmas.{value-none, value-some}
 use Rattle.routine_reader.proofs.readers.read_value.Goals as goal
-use Rattle.serde_json.specs.View.{view}
-use Rattle.std.proofs.Common.{refl, rules}
+use Rattle.routine_reader.proofs.Prelude.{refl, rules, view}
 
 pub returns-else-is_memory-clause-refused : goal.returns-else-is_memory-clause-refused
 returns-else-is_memory-clause-refused c = λ _. (refl, value-none c.args.bytes.now (search rules))

@@ -1,12 +1,8 @@
-use Rattle.command_rules.specs.Rosters.{runs_of}
+use Rattle.routine_reader.proofs.Prelude.{All, List, RunText, ap, length, map, run_of_text, runs_of, script_runs, subst, sym, ◌<◌, ◌∙◌, ◌≡◌}
 use Rattle.command_rules.specs.declared.rosters.Roster.{Roster}
 use Rattle.routine_reader.proofs.RosterLemmas.{routines-there, runs-there, window-there}
 use Rattle.routine_reader.proofs.rosters.roster.Goals as goal
-use Rattle.routine_reader.specs.Rosters.{run_of_text, script_runs}
-use Rattle.routine_reader.specs.declared.scripts.RunText.{RunText}
-use Rattle.std.proofs.Common.{List, ap, length, map, subst, sym, ◌<◌, ◌∙◌, ◌≡◌}
 use Rattle.std.proofs.lemmas.Result.{IfOk-weaker}
-use Rattle.std.specs.Prelude.{All}
 
 pub roster_of-requires : goal.roster_of-requires
 roster_of-requires c =

@@ -1,10 +1,6 @@
-use Rattle.command_rules.specs.Rosters.{Run, plain_run}
+use Rattle.routine_reader.proofs.Prelude.{List, None, Run, RunText, [], ap, arith, get_or, map, map-append, plain_run, rules, run_of_text, ◌++◌, ◌∙◌, ◌∷◌, ◌≡◌}
 use Rattle.routine_reader.proofs.RosterLemmas.{runs-all, runs-more}
 use Rattle.routine_reader.proofs.rosters.roster_of.Goals as goal
-use Rattle.routine_reader.specs.Rosters.{run_of_text}
-use Rattle.routine_reader.specs.declared.scripts.RunText.{RunText}
-use Rattle.std.proofs.Common.{List, None, [], ap, arith, get_or, map, rules, ◌++◌, ◌≡◌, ◌∙◌, ◌∷◌}
-use Rattle.std.proofs.lemmas.List.{map-append}
 
 pub texts-preserved : goal.texts-preserved
 texts-preserved c =

@@ -1,10 +1,6 @@
 use Rattle.routine_reader.proofs.WalkLemmas.{each-end, each-read, each-refused, walk-refused}
 use Rattle.routine_reader.proofs.routines.read_each_command.Goals as goal
-use Rattle.routine_reader.specs.Commands.{next_command_read}
-use Rattle.routine_reader.specs.Scripts.{plain_device}
-use Rattle.routine_reader.specs.Walks.{read_each}
-use Rattle.serde_json.specs.View.{view}
-use Rattle.std.proofs.Common.{Err, Ok, ap, arith, drop, length-append, map, rules, sym, ◌+◌, ◌∙◌, ◌≡◌}
+use Rattle.routine_reader.proofs.Prelude.{Err, Ok, ap, arith, drop, length-append, map, next_command_read, plain_device, read_each, rules, sym, view, ◌+◌, ◌∙◌, ◌≡◌}
 
 pub returns-in_err-command : goal.returns-in_err-command
 returns-in_err-command c =

@@ -1,9 +1,5 @@
 use Rattle.routine_reader.proofs.routines.read_each_command.Given as goal
-use Rattle.routine_reader.specs.Commands.{next_command_read}
-use Rattle.routine_reader.specs.Scripts.{plain_device}
-use Rattle.routine_reader.specs.Walks.{read_each}
-use Rattle.serde_json.specs.View.{view}
-use Rattle.std.proofs.Common.{[], drop, length, map, ◌≡◌}
+use Rattle.routine_reader.proofs.Prelude.{[], drop, length, map, next_command_read, plain_device, read_each, view, ◌≡◌}
 
 abbrev pub invariant-values : goal.invariant-values
 invariant-values l =

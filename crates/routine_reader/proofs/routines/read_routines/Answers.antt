@@ -1,12 +1,6 @@
 use Rattle.routine_reader.proofs.WalkLemmas.{each-end, each-read, each-refused, walk-refused}
 use Rattle.routine_reader.proofs.routines.read_routines.Goals as goal
-use Rattle.routine_reader.specs.Routines.{next_routine, routine_names}
-use Rattle.routine_reader.specs.Scripts.{plain_device, plain_routine}
-use Rattle.routine_reader.specs.Spots.{is_memory}
-use Rattle.routine_reader.specs.Walks.{read_each}
-use Rattle.serde_json.specs.View.{view}
-use Rattle.std.proofs.Common.{Err, Ok, [], ap, arith, drop, false, length-append, map, rules, sym, ◌+◌, ◌++◌, ◌∙◌, ◌≡◌, ◌∷◌}
-use Rattle.std.proofs.lemmas.List.{length-map, map-append}
+use Rattle.routine_reader.proofs.Prelude.{Err, Ok, [], ap, arith, drop, false, is_memory, length-append, length-map, map, map-append, next_routine, plain_device, plain_routine, read_each, routine_names, rules, sym, view, ◌++◌, ◌+◌, ◌∙◌, ◌∷◌, ◌≡◌}
 
 pub returns-in_err-routine-clause-reading : goal.returns-in_err-routine-clause-reading
 returns-in_err-routine-clause-reading c =

@@ -1,9 +1,5 @@
 use Rattle.routine_reader.proofs.routines.read_routines.Given as goal
-use Rattle.routine_reader.specs.Routines.{next_routine, routine_names}
-use Rattle.routine_reader.specs.Scripts.{plain_device, plain_routine}
-use Rattle.routine_reader.specs.Walks.{read_each}
-use Rattle.serde_json.specs.View.{view}
-use Rattle.std.proofs.Common.{[], drop, length, map, ◌≡◌}
+use Rattle.routine_reader.proofs.Prelude.{[], drop, length, map, next_routine, plain_device, plain_routine, read_each, routine_names, view, ◌≡◌}
 
 abbrev pub invariant-values : goal.invariant-values
 invariant-values l =

@@ -1,9 +1,6 @@
 use Rattle.routine_reader.proofs.WalkLemmas.{each-end, each-read, each-refused, walk-refused}
 use Rattle.routine_reader.proofs.windows.read_each_run.Goals as goal
-use Rattle.routine_reader.specs.Walks.{read_each}
-use Rattle.routine_reader.specs.Windows.{next_run_read}
-use Rattle.serde_json.specs.View.{view}
-use Rattle.std.proofs.Common.{Err, Ok, ap, arith, drop, length-append, map, rules, sym, ◌+◌, ◌∙◌, ◌≡◌}
+use Rattle.routine_reader.proofs.Prelude.{Err, Ok, ap, arith, drop, length-append, map, next_run_read, read_each, rules, sym, view, ◌+◌, ◌∙◌, ◌≡◌}
 
 pub returns-in_err-run : goal.returns-in_err-run
 returns-in_err-run c =

@@ -1,15 +1,7 @@
-use Rattle.day_clock.specs.Times.{IsCivilTime}
+use Rattle.routine_reader.proofs.Prelude.{All-append, All-cons, All-nil, Err, IsCivilTime, Ok, [], ap, arith, drop, false, is_memory, last_time, length, length-append, length-map, map, map-append, next_window_read, plain_window, read_each, rules, subst, sym, view, window_reading, ◌++◌, ◌+◌, ◌∙◌, ◌∷◌, ◌≡◌}
 use Rattle.routine_reader.proofs.WalkLemmas.{each-end, each-read, each-refused, walk-refused}
 use Rattle.routine_reader.proofs.WindowLemmas.{last-more}
 use Rattle.routine_reader.proofs.windows.read_windows.Goals as goal
-use Rattle.routine_reader.specs.Scripts.{plain_window}
-use Rattle.routine_reader.specs.Spots.{is_memory}
-use Rattle.routine_reader.specs.Walks.{read_each}
-use Rattle.routine_reader.specs.Windows.{last_time, next_window_read, window_reading}
-use Rattle.serde_json.specs.View.{view}
-use Rattle.std.proofs.Common.{Err, Ok, [], ap, arith, drop, false, length, length-append, map, rules, subst, sym, ◌+◌, ◌++◌, ◌∙◌, ◌≡◌, ◌∷◌}
-use Rattle.std.proofs.lemmas.List.Elements.{All-append, All-cons, All-nil}
-use Rattle.std.proofs.lemmas.List.{length-map, map-append}
 
 pub returns-in_err-window-clause-reading : goal.returns-in_err-window-clause-reading
 returns-in_err-window-clause-reading c =

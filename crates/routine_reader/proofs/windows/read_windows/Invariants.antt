@@ -1,11 +1,5 @@
 use Rattle.routine_reader.proofs.windows.read_windows.Given as goal
-use Rattle.routine_reader.specs.Scripts.{plain_window}
-use Rattle.routine_reader.specs.Windows.{last_time, next_window_read}
-use Rattle.routine_reader.specs.Walks.{read_each}
-use Rattle.serde_json.specs.View.{view}
-use Rattle.day_clock.specs.Times.{IsCivilTime}
-use Rattle.std.specs.Prelude.{All}
-use Rattle.std.proofs.Common.{[], drop, length, map, ◌≡◌}
+use Rattle.routine_reader.proofs.Prelude.{All, IsCivilTime, [], drop, last_time, length, map, next_window_read, plain_window, read_each, view, ◌≡◌}
 
 abbrev pub invariant-values : goal.invariant-values
 invariant-values l =

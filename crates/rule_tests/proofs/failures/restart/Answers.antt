@@ -1,7 +1,6 @@
-use Rattle.lineage_table.specs.Lineages.{accesses_at}
+use Rattle.rule_tests.proofs.Prelude.{accesses_at, rules, ◌≡◌}
 use Rattle.rule_tests.proofs.Unsealed.{none_sealed}
 use Rattle.rule_tests.proofs.failures.restart.Goals as goal
-use Rattle.std.proofs.Common.{rules, ◌≡◌}
 
 pub device_recovered-requires-clause-unsealed : goal.device_recovered-requires-clause-unsealed
 device_recovered-requires-clause-unsealed c =

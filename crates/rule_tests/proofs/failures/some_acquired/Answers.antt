@@ -1,10 +1,5 @@
-use Rattle.failure_serialization.proofs.Cited.{first_of_all, some_found, some_run}
+use Rattle.rule_tests.proofs.Prelude.{Access, accesses_at, ap, find, first_before, first_of_all, is_acquired, is_some, rules, some_found, some_run, ◌∙◌, ◌≡◌}
 use Rattle.rule_tests.proofs.failures.some_acquired.Goals as goal
-use Rattle.lineage_table.specs.Accesses.{first_before, is_acquired}
-use Rattle.lineage_table.specs.Lineages.{accesses_at}
-use Rattle.lineage_table.specs.declared.accesses.Access.{Access}
-use Rattle.std.proofs.Common.{ap, rules, ◌∙◌, ◌≡◌}
-use Rattle.std.specs.Prelude.{find, is_some}
 
 pub returns : goal.returns
 returns c =

@@ -1,10 +1,5 @@
-use Rattle.failure_serialization.proofs.Cited.{some_found, some_run}
+use Rattle.rule_tests.proofs.Prelude.{Access, accesses_at, accesses_before, ap, find, first_before, is_scheduled, is_some, rules, some_found, some_run, ◌∙◌, ◌≡◌}
 use Rattle.rule_tests.proofs.failures.some_scheduled_before.Goals as goal
-use Rattle.lineage_table.specs.Accesses.{accesses_before, first_before, is_scheduled}
-use Rattle.lineage_table.specs.Lineages.{accesses_at}
-use Rattle.lineage_table.specs.declared.accesses.Access.{Access}
-use Rattle.std.proofs.Common.{ap, rules, ◌∙◌, ◌≡◌}
-use Rattle.std.specs.Prelude.{find, is_some}
 
 pub returns : goal.returns
 returns c =

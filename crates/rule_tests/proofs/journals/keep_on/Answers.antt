@@ -1,8 +1,6 @@
-use Rattle.home_journal.specs.Journals.{IsStateOf}
-use Rattle.home_types.specs.declared.kinds.Kind.{Kind}
+use Rattle.rule_tests.proofs.Prelude.{IsStateOf, Kind, List, rules, subst, sym, ◌≡◌}
 use Rattle.rule_tests.proofs.OneLamp.{lamp}
 use Rattle.rule_tests.proofs.journals.keep_on.Goals as goal
-use Rattle.std.proofs.Common.{List, rules, subst, sym, ◌≡◌}
 
 pub keep-requires-clause-home : goal.keep-requires-clause-home
 keep-requires-clause-home c =

@@ -1,6 +1,6 @@
 use Rattle.rule_tests.proofs.OneLamp.{lamp_is_on, on}
 use Rattle.rule_tests.proofs.journals.lamp_on.Goals as goal
-use Rattle.std.proofs.Common.{rules, ◌≡◌}
+use Rattle.rule_tests.proofs.Prelude.{rules, ◌≡◌}
 
 pub returns : goal.returns
 returns c =

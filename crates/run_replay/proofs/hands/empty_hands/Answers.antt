@@ -1,7 +1,6 @@
 use Rattle.run_replay.proofs.EmptyHands.{more_hands}
 use Rattle.run_replay.proofs.hands.empty_hands.Goals as goal
-use Rattle.run_replay.specs.Players.{HoldNothing}
-use Rattle.std.proofs.Common.{arith, subst, sym, ◌∙◌}
+use Rattle.run_replay.proofs.Prelude.{HoldNothing, arith, subst, sym, ◌∙◌}
 
 -- one empty hand more
 pub actors-preserved : goal.actors-preserved

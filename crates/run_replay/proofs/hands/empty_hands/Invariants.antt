@@ -1,6 +1,5 @@
 use Rattle.run_replay.proofs.hands.empty_hands.Given as goal
-use Rattle.run_replay.specs.Players.{HoldNothing}
-use Rattle.std.specs.Prelude.{vec_capacity, vec_len, ◌-◌, ◌≡◌, ◌≤◌}
+use Rattle.run_replay.proofs.Prelude.{HoldNothing, vec_capacity, vec_len, ◌-◌, ◌≡◌, ◌≤◌}
 
 -- as many empty hands as fit
 abbrev pub invariant-actors : goal.invariant-actors

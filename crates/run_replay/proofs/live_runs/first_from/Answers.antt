@@ -1,8 +1,6 @@
 use Rattle.run_replay.proofs.LiveRuns.{first_found, first_passed, none_from}
 use Rattle.run_replay.proofs.live_runs.first_from.Goals as goal
-use Rattle.std.proofs.Common.{arith, rules}
-use Rattle.std.proofs.lemmas.Grind.{common_steps}
-use Rattle.std.specs.Prelude.{◌-◌, ◌/◌, ◌<◌, ◌^◌, ◌≡◌, ◌≢◌}
+use Rattle.run_replay.proofs.Prelude.{arith, common_steps, rules, ◌-◌, ◌/◌, ◌<◌, ◌^◌, ◌≡◌, ◌≢◌}
 
 pub returns-then-rest-eq0-clause-none : goal.returns-then-rest-eq0-clause-none
 returns-then-rest-eq0-clause-none c q low high =

@@ -1,7 +1,7 @@
 use Rattle.run_replay.proofs.LiveRuns.{front, passed_over}
 use Rattle.blocked_runs.proofs.Cited.{has_without}
 use Rattle.run_replay.proofs.live_runs.next_run.Goals as goal
-use Rattle.std.proofs.Common.{rules, sym, ◌<◌, ◌^◌, ◌∙◌}
+use Rattle.run_replay.proofs.Prelude.{rules, sym, ◌<◌, ◌^◌, ◌∙◌}
 
 pub returns-clause-passed : goal.returns-clause-passed
 returns-clause-passed c q low high =

@@ -1,6 +1,6 @@
 use Rattle.run_replay.proofs.LiveRuns.{without_one}
 use Rattle.run_replay.proofs.live_runs.without_run.Goals as goal
-use Rattle.std.proofs.Common.{rules, ◌<◌, ◌^◌}
+use Rattle.run_replay.proofs.Prelude.{rules, ◌<◌, ◌^◌}
 
 pub returns : goal.returns
 returns c q =

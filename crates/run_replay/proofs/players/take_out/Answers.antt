@@ -1,5 +1,5 @@
 use Rattle.run_replay.proofs.players.take_out.Goals as goal
-use Rattle.std.proofs.Common.{rules}
+use Rattle.run_replay.proofs.Prelude.{rules}
 use Rattle.std.proofs.lemmas.Fn.{filter_same}
 
 pub returns : goal.returns

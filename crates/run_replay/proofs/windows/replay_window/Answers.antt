@@ -1,6 +1,6 @@
 use Rattle.run_replay.proofs.Replayed.{plans_of, plans_then, quiet_then, replayed_so}
 use Rattle.run_replay.proofs.windows.replay_window.Goals as goal
-use Rattle.std.proofs.Common.{sym, ◌∙◌}
+use Rattle.run_replay.proofs.Prelude.{sym, ◌∙◌}
 
 -- every actor had ended, so the window closes
 pub unreachable-requires : goal.unreachable-requires

@@ -1,4 +1,4 @@
-use Rattle.command_rules.proofs.Cited.{low_device}
+use Rattle.serial_line.proofs.Prelude.{low_device}
 use Rattle.serial_line.proofs.KeptRuns.{none_passed, one_passed}
 use Rattle.serial_line.proofs.kept_runs.devices_of.Goals as goal
 

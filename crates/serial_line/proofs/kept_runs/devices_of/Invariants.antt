@@ -1,8 +1,6 @@
-use Rattle.command_rules.specs.Rosters.{is_on}
+use Rattle.serial_line.proofs.Prelude.{drop, is_on, list_any, ℕ, ◌||◌, ◌≡◌}
 use Rattle.serial_line.proofs.kept_runs.devices_of.Given as goal
 use Rattle.std.specs.FinSet as set
-use Rattle.std.specs.List.{list_any}
-use Rattle.std.specs.Prelude.{drop, ℕ, ◌||◌, ◌≡◌}
 
 -- the devices of the commands so far, and of those that are left, are those of all
 abbrev pub invariant-commands : goal.invariant-commands

@@ -1,6 +1,5 @@
 use Rattle.serial_line.proofs.lines.front_from.Given as goal
-use Rattle.serial_line.specs.Marks.{front_of}
-use Rattle.std.proofs.Common.{◌≤◌}
+use Rattle.serial_line.proofs.Prelude.{front_of, ◌≤◌}
 
 -- no item so far is a run that has not ended
 abbrev pub invariant-items : goal.invariant-items

@@ -1,7 +1,6 @@
 use Rattle.serial_line.proofs.RunPlaces.{told_one}
 use Rattle.serial_line.proofs.lines.tell_places.Goals as goal
-use Rattle.serial_line.specs.RunPlaces.{ArePlacesBefore}
-use Rattle.std.proofs.Common.{ap, subst, sym, ◌+◌, ◌∙◌}
+use Rattle.serial_line.proofs.Prelude.{ArePlacesBefore, ap, subst, sym, ◌+◌, ◌∙◌}
 
 pub entries-preserved : goal.entries-preserved
 entries-preserved c =

@@ -1,6 +1,6 @@
 use Rattle.serial_line.proofs.Labels.{before_leaves, end_between, end_free, end_label, labels_part, middle_between, middle_label, none_free, rises_at, some_free}
 use Rattle.serial_line.proofs.order_labels.free_label.Goals as goal
-use Rattle.std.proofs.Common.{arith, length, refl, sym, ◌<◌}
+use Rattle.serial_line.proofs.Prelude.{arith, length, refl, sym, ◌<◌}
 
 pub next_label-requires-clause-room : goal.next_label-requires-clause-room
 next_label-requires-clause-room c =

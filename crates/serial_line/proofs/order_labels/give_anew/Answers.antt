@@ -1,7 +1,6 @@
 use Rattle.serial_line.proofs.Labels.{anew_told, before_leaves, labels_told, part_told}
 use Rattle.serial_line.proofs.order_labels.give_anew.Goals as goal
-use Rattle.serial_line.specs.Labels.{AreLabels, label_at_end, label_before}
-use Rattle.std.proofs.Common.{ap, arith, length, rules, subst, take_all, vec_len, ◌∙◌, ◌≡◌}
+use Rattle.serial_line.proofs.Prelude.{AreLabels, ap, arith, label_at_end, label_before, length, rules, subst, take_all, vec_len, ◌∙◌, ◌≡◌}
 
 pub next_label-requires-clause-room : goal.next_label-requires-clause-room
 next_label-requires-clause-room c =

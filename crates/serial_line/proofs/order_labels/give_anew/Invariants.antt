@@ -1,7 +1,6 @@
 use Rattle.serial_line.proofs.Labels.{AreAnewUpTo}
 use Rattle.serial_line.proofs.order_labels.give_anew.Given as goal
-use Rattle.serial_line.specs.Labels.{AreLabels}
-use Rattle.std.proofs.Common.{take, vec_capacity, vec_len, ◌≡◌}
+use Rattle.serial_line.proofs.Prelude.{AreLabels, take, vec_capacity, vec_len, ◌≡◌}
 
 -- the labels before the place are given, and those before the first one stay
 abbrev pub invariant-labels : goal.invariant-labels

@@ -1,7 +1,6 @@
 use Rattle.serial_line.proofs.Labels.{given_between, inserted_removed, label_found, labels_inserted, labels_part, part_inserted}
 use Rattle.serial_line.proofs.order_labels.insert_label.Goals as goal
-use Rattle.serial_line.specs.Labels.{IsBetween, new_label}
-use Rattle.std.proofs.Common.{ap, arith, insert, length, rules, vec_len, ◌∙◌, ◌≡◌}
+use Rattle.serial_line.proofs.Prelude.{IsBetween, ap, arith, insert, length, new_label, rules, vec_len, ◌∙◌, ◌≡◌}
 
 pub give_anew-requires-clause-before : goal.give_anew-requires-clause-before
 give_anew-requires-clause-before c =

@@ -1,7 +1,6 @@
 use Rattle.serial_line.proofs.Labels.{before_at, before_first}
 use Rattle.serial_line.proofs.order_labels.label_before.Goals as goal
-use Rattle.serial_line.specs.Labels.{label_before}
-use Rattle.std.proofs.Common.{ap, arith, suc, sym, ◌-◌, ◌∙◌, ◌≡◌}
+use Rattle.serial_line.proofs.Prelude.{ap, arith, label_before, suc, sym, ◌-◌, ◌∙◌, ◌≡◌}
 
 pub returns-then-at-eq0 : goal.returns-then-at-eq0
 returns-then-at-eq0 c = before_first 0 c.args.labels.now ∙ ap (λ k. label_before 0 k c.args.labels.now) (sym c.if-at-eq0.true)

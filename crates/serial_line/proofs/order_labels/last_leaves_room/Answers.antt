@@ -1,7 +1,6 @@
 use Rattle.serial_line.proofs.Labels.{before_first, last_leaves}
 use Rattle.serial_line.proofs.order_labels.last_leaves_room.Goals as goal
-use Rattle.std.proofs.Common.{arith, length, refl, ◌+◌, ◌-◌, ◌<◌, ◌≡◌, ◌≤◌}
-use Rattle.std.proofs.lemmas.Grind.{common_steps}
+use Rattle.serial_line.proofs.Prelude.{arith, common_steps, length, refl, ◌+◌, ◌-◌, ◌<◌, ◌≡◌, ◌≤◌}
 
 pub returns-else-count-eq0-clause-room : goal.returns-else-count-eq0-clause-room
 returns-else-count-eq0-clause-room c leaves =

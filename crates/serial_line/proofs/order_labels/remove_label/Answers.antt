@@ -1,7 +1,6 @@
 use Rattle.serial_line.proofs.Labels.{labels_part, labels_removed, part_removed}
 use Rattle.serial_line.proofs.order_labels.remove_label.Goals as goal
-use Rattle.serial_line.specs.Labels.{LastLeavesRoom}
-use Rattle.std.proofs.Common.{rules, subst, ◌∙◌}
+use Rattle.serial_line.proofs.Prelude.{LastLeavesRoom, rules, subst, ◌∙◌}
 
 pub give_anew-requires-clause-before : goal.give_anew-requires-clause-before
 give_anew-requires-clause-before c =

@@ -1,5 +1,5 @@
 use Rattle.serial_line.proofs.order_labels.with_room.Given as goal
-use Rattle.std.proofs.Common.{length, take, vec_capacity, vec_len, ◌+◌, ◌≡◌}
+use Rattle.serial_line.proofs.Prelude.{length, take, vec_capacity, vec_len, ◌+◌, ◌≡◌}
 
 -- the labels before the place stand there, in order
 abbrev pub invariant-labels : goal.invariant-labels

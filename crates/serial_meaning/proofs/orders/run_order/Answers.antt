@@ -1,10 +1,7 @@
-use Rattle.command_rules.specs.Rosters.{runs_of}
-use Rattle.command_rules.specs.Serial.{serve}
+use Rattle.serial_meaning.proofs.Prelude.{ap, drop, fold, option_map, refl, runs_of, serial_run_of, serve, sym, ◌∙◌}
 use Rattle.serial_meaning.proofs.Items.{serve_stays}
 use Rattle.serial_meaning.proofs.Refusals.{fold_stops}
 use Rattle.serial_meaning.proofs.orders.run_order.Goals as goal
-use Rattle.serial_meaning.specs.Progress.{serial_run_of}
-use Rattle.std.proofs.Common.{ap, drop, fold, option_map, refl, sym, ◌∙◌}
 
 pub returns-in-None-clause-answers : goal.returns-in-None-clause-answers
 returns-in-None-clause-answers c =

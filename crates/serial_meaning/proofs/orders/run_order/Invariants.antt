@@ -1,8 +1,5 @@
-use Rattle.command_rules.specs.Rosters.{runs_of}
-use Rattle.command_rules.specs.Serial.{serial_execution, serve}
+use Rattle.serial_meaning.proofs.Prelude.{drop, fold, length, runs_of, serial_execution, serial_run_of, serve, ◌≡◌}
 use Rattle.serial_meaning.proofs.orders.run_order.Given as goal
-use Rattle.serial_meaning.specs.Progress.{serial_run_of}
-use Rattle.std.proofs.Common.{drop, fold, length, ◌≡◌}
 
 -- what is still to be done gives the whole
 abbrev pub invariant-items : goal.invariant-items

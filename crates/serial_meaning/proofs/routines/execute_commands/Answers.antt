@@ -1,9 +1,7 @@
-use Rattle.home_types.specs.Commands.{execute}
+use Rattle.serial_meaning.proofs.Prelude.{ap, execute, execution_of, option_map, refl, rules, sym, ◌∙◌}
 use Rattle.serial_meaning.proofs.Items.{execute_stays}
 use Rattle.serial_meaning.proofs.Refusals.{fold_goes_on, fold_stops}
 use Rattle.serial_meaning.proofs.routines.execute_commands.Goals as goal
-use Rattle.serial_meaning.specs.Progress.{execution_of}
-use Rattle.std.proofs.Common.{ap, option_map, refl, rules, sym, ◌∙◌}
 
 pub commands-preserved : goal.commands-preserved
 commands-preserved c =

@@ -1,7 +1,5 @@
-use Rattle.home_types.specs.Commands.{execute, routine_execution}
+use Rattle.serial_meaning.proofs.Prelude.{drop, execute, execution_of, fold, length, routine_execution, ◌≡◌}
 use Rattle.serial_meaning.proofs.routines.execute_commands.Given as goal
-use Rattle.serial_meaning.specs.Progress.{execution_of}
-use Rattle.std.proofs.Common.{drop, fold, length, ◌≡◌}
 
 -- what is still to be done gives the whole
 abbrev pub invariant-commands : goal.invariant-commands

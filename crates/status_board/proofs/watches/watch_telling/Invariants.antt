@@ -1,5 +1,4 @@
-use Rattle.std.proofs.Common.{◌≡◌}
-use Rattle.status_board.specs.Publishings.{StartsWith}
+use Rattle.status_board.proofs.Prelude.{StartsWith, ◌≡◌}
 use Rattle.status_board.proofs.watches.watch_telling.Given as goal
 
 abbrev pub invariant-loop : goal.invariant-loop

@@ -1,7 +1,6 @@
 use Rattle.hub_core.proofs.Cited.{may_open}
 use Rattle.routine_reader.proofs.Cited.{window-there}
-use Rattle.std.proofs.Common.{arith}
-use Rattle.std.specs.Prelude.{◌≤◌}
+use Rattle.step_table.proofs.Prelude.{arith, ◌≤◌}
 use Rattle.step_table.proofs.openings.open_window.Goals as goal
 
 pub open_window-requires : goal.open_window-requires

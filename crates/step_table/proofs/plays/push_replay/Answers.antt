@@ -1,10 +1,6 @@
-use Rattle.hub_core.specs.OpenHubs.{configuration_of}
-use Rattle.hub_core.specs.Steps.{opened}
-use Rattle.std.proofs.Common.{subst, ◌≡◌}
-use Rattle.std.specs.Prelude.{IfSome}
+use Rattle.step_table.proofs.Prelude.{IfSome, Opened, configuration_of, opened, subst, ◌≡◌}
 use Rattle.step_table.proofs.FreshWindows.{rounds_left}
 use Rattle.step_table.proofs.plays.push_replay.Goals as goal
-use Rattle.step_table.specs.declared.openings.Opened.{Opened}
 
 pub replay_window-requires-clause-rounds : goal.replay_window-requires-clause-rounds
 replay_window-requires-clause-rounds c =

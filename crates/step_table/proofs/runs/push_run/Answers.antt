@@ -1,10 +1,6 @@
-use Rattle.hub_core.specs.OpenHubs.{configuration_of}
-use Rattle.hub_core.specs.Steps.{opened}
-use Rattle.std.proofs.Common.{subst, ◌≡◌}
-use Rattle.std.specs.Prelude.{IfSome}
+use Rattle.step_table.proofs.Prelude.{IfSome, Opened, configuration_of, opened, subst, ◌≡◌}
 use Rattle.step_table.proofs.FreshWindows.{rounds_are}
 use Rattle.step_table.proofs.runs.push_run.Goals as goal
-use Rattle.step_table.specs.declared.openings.Opened.{Opened}
 
 pub run_window-requires-clause-rounds : goal.run_window-requires-clause-rounds
 run_window-requires-clause-rounds g c lifetimes live =

@@ -1,8 +1,6 @@
-use Rattle.std.proofs.Common.{length, rules, true, ◌≡◌}
-use Rattle.std.specs.List.{list_all}
+use Rattle.step_table.proofs.Prelude.{item_fits, length, list_all, rules, true, ◌≡◌}
 use Rattle.step_table.proofs.FittingOrders.{are_items}
 use Rattle.step_table.proofs.serial_orders.redo.Goals as goal
-use Rattle.step_table.specs.Orders.{item_fits}
 
 pub run_order-requires-clause-items : goal.run_order-requires-clause-items
 run_order-requires-clause-items c =

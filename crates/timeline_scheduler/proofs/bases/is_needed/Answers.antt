@@ -1,8 +1,4 @@
-use Rattle.command_rules.specs.Rosters.{touches}
-use Rattle.lock_leasing.specs.Standings.{WindowParts}
-use Rattle.serial_line.specs.Marks.{front_of, items_of, meets}
-use Rattle.std.proofs.Common.{ap, arith, false, option_map, slice_get, sym, ◌<◌, ◌∙◌, ◌≤◌}
-use Rattle.std.specs.Prelude.{unwrap_or}
+use Rattle.timeline_scheduler.proofs.Prelude.{WindowParts, ap, arith, false, front_of, items_of, meets, option_map, slice_get, sym, touches, unwrap_or, ◌<◌, ◌∙◌, ◌≤◌}
 use Rattle.timeline_scheduler.proofs.ItemPlaces.{item_there}
 use Rattle.timeline_scheduler.proofs.Needs.{seed_front, seed_met, seed_rest}
 use Rattle.timeline_scheduler.proofs.bases.is_needed.Goals as goal

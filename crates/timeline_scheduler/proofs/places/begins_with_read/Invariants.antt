@@ -1,10 +1,6 @@
-use Rattle.command_rules.specs.Rosters.{reads_first, runs_of}
+use Rattle.timeline_scheduler.proofs.Prelude.{drop, list_any, reads_first, reads_some, runs_of, ◌&&◌, ◌≡◌}
 use Rattle.home_types.specs.Commands.{reads}
-use Rattle.std.proofs.Common.{drop, ◌≡◌}
-use Rattle.std.specs.List.{list_any}
-use Rattle.std.specs.Prelude.{◌&&◌}
 use Rattle.timeline_scheduler.proofs.places.begins_with_read.Given as goal
-use Rattle.timeline_scheduler.specs.Slots.{reads_some}
 
 -- the commands that are left decide
 abbrev pub invariant-commands : goal.invariant-commands

@@ -1,6 +1,4 @@
-use Rattle.command_rules.specs.Rosters.{runs_of, touches}
-use Rattle.std.proofs.Common.{ap, ◌∙◌}
-use Rattle.std.specs.Prelude.{◌||◌}
+use Rattle.timeline_scheduler.proofs.Prelude.{ap, runs_of, touches, ◌||◌, ◌∙◌}
 use Rattle.timeline_scheduler.proofs.places.followed.Goals as goal
 
 pub returns-else-begins_with_read : goal.returns-else-begins_with_read

@@ -1,11 +1,8 @@
-use Rattle.std.proofs.Common.{ap, arith, length, refl, subst, sym, ◌∙◌}
-use Rattle.std.specs.Prelude.{count_by}
+use Rattle.timeline_scheduler.proofs.Prelude.{IsEarliestOf, IsLeastOf, IsPlanOf, IsSetOf, ScratchRoom, ap, arith, count_by, length, refl, subst, sym, ◌∙◌}
 use Rattle.timeline_scheduler.proofs.KnownItems.{all_homed, all_known}
 use Rattle.timeline_scheduler.proofs.Needs.{seeds_length}
 use Rattle.timeline_scheduler.proofs.Rounds.{closed_flags, earliest_told, first_of, least_told, next_fewer, next_of, place_told, place_within, planned_told, set_told, taken_flags}
 use Rattle.timeline_scheduler.proofs.places.place.Goals as goal
-use Rattle.timeline_scheduler.specs.Placings.{IsEarliestOf, IsLeastOf, IsPlanOf, IsSetOf}
-use Rattle.timeline_scheduler.specs.Scratches.{ScratchRoom}
 
 pub seed-requires-clause-known : goal.seed-requires-clause-known
 seed-requires-clause-known c = all_known c.args.s.now c.args.r.0 c.requires.may

@@ -1,5 +1,4 @@
-use Rattle.std.proofs.Common.{not, ◌≡◌}
-use Rattle.std.specs.Prelude.{count_by}
+use Rattle.timeline_scheduler.proofs.Prelude.{count_by, not, ◌≡◌}
 use Rattle.timeline_scheduler.proofs.Rounds.{IsRound}
 use Rattle.timeline_scheduler.proofs.places.place.Given as goal
 

@@ -1,17 +1,9 @@
-use Rattle.command_rules.specs.Rosters.{Run, commands_of, is_on}
-use Rattle.history_book.specs.Plans.{planned_times}
+use Rattle.timeline_scheduler.proofs.Prelude.{Command, Fcfs, JustInTime, List, Run, Some, Timeline, ap, commands_of, inl, inr, is_on, list_any, planned_in_turn, planned_times, planned_use, scheduler_of, sym, ◌∙◌, ◌≡◌, ◌≢◌}
 use Rattle.history_book.specs.ReadHistories.{read_in}
-use Rattle.history_book.specs.Settings.{scheduler_of}
-use Rattle.home_types.specs.declared.commands.Command.{Command}
-use Rattle.home_types.specs.declared.modes.Scheduler.TheVariants.{Fcfs, JustInTime, Timeline}
-use Rattle.std.proofs.Common.{ap, inl, inr, sym, ◌∙◌}
-use Rattle.std.specs.List.{list_any}
-use Rattle.std.specs.Prelude.{List, Some, ◌≡◌, ◌≢◌}
 use Rattle.timeline_scheduler.proofs.HeldUses.{held_is_planned}
 use Rattle.timeline_scheduler.proofs.PlannedInTurn.{planned_in_turn_is}
 use Rattle.timeline_scheduler.proofs.PlannedUses.{planned_devices}
 use Rattle.timeline_scheduler.proofs.plans.plan_uses.Goals as goal
-use Rattle.timeline_scheduler.specs.PlannedUses.{planned_in_turn, planned_use}
 
 pub returns-in-Fcfs : goal.returns-in-Fcfs
 returns-in-Fcfs c = record {

@@ -1,4 +1,4 @@
-use Rattle.std.proofs.Common.{length, ◌≡◌, ◌≤◌}
+use Rattle.timeline_scheduler.proofs.Prelude.{length, ◌≡◌, ◌≤◌}
 use Rattle.timeline_scheduler.proofs.scratches.no_uses.Given as goal
 
 abbrev pub invariant-devices : goal.invariant-devices

@@ -1,7 +1,6 @@
 use Rattle.lineage_table.proofs.Cited.{read}
-use Rattle.lineage_table.specs.Accesses.{IsDisciplined, access_of}
+use Rattle.timeline_scheduler.proofs.Prelude.{IsDisciplined, access_of, ap, subst, sym, ◌∙◌}
 use Rattle.lineage_table.specs.Knots.{IsKnotOf}
-use Rattle.std.proofs.Common.{ap, subst, sym, ◌∙◌}
 use Rattle.timeline_scheduler.proofs.slots.find.Goals as goal
 
 pub knot_from-requires : goal.knot_from-requires

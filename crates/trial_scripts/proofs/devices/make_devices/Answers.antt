@@ -1,10 +1,5 @@
-use Rattle.routine_reader.specs.Scripts.{plain_device}
-use Rattle.std.proofs.Common.{[], ap, arith, map, sym, ◌++◌, ◌∙◌, ◌∷◌}
-use Rattle.std.proofs.lemmas.List.FromFn.{map-range_with_len_more}
-use Rattle.std.proofs.lemmas.List.{map-append}
-use Rattle.std.specs.List.{range_with_len}
+use Rattle.trial_scripts.proofs.Prelude.{[], ap, arith, map, map-append, map-range_with_len_more, plain_device, range_with_len, sym, trial_device, ◌++◌, ◌∙◌, ◌∷◌}
 use Rattle.trial_scripts.proofs.devices.make_devices.Goals as goal
-use Rattle.trial_scripts.specs.TrialDevices.{trial_device}
 
 pub devices-preserved : goal.devices-preserved
 devices-preserved c =

@@ -1,6 +1,6 @@
 use Rattle.trial_scripts.proofs.DrawnEach.{none_yet, one_more}
 use Rattle.trial_scripts.proofs.routines.draw_commands.Goals as goal
-use Rattle.trial_scripts.specs.TrialRoutines.{draw_command}
+use Rattle.trial_scripts.proofs.Prelude.{draw_command}
 
 pub commands-init : goal.commands-init
 commands-init c = none_yet (λ _. draw_command) c.args.draws.now c.new-commands.result.items c.new-commands.ensures.empty

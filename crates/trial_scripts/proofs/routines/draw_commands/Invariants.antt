@@ -1,7 +1,5 @@
-use Rattle.std.proofs.Common.{◌≡◌}
+use Rattle.trial_scripts.proofs.Prelude.{draw_command, draw_each, ◌≡◌}
 use Rattle.trial_scripts.proofs.routines.draw_commands.Given as goal
-use Rattle.trial_scripts.specs.Drawings.{draw_each}
-use Rattle.trial_scripts.specs.TrialRoutines.{draw_command}
 
 -- the commands so far
 abbrev pub invariant-commands : goal.invariant-commands

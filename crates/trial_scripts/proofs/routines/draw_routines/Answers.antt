@@ -1,8 +1,6 @@
-use Rattle.routine_reader.specs.Scripts.{plain_routine}
-use Rattle.std.proofs.Common.{ap, map}
+use Rattle.trial_scripts.proofs.Prelude.{ap, draw_routine, map, plain_routine}
 use Rattle.trial_scripts.proofs.DrawnEach.{none_yet, one_more_seen}
 use Rattle.trial_scripts.proofs.routines.draw_routines.Goals as goal
-use Rattle.trial_scripts.specs.TrialRoutines.{draw_routine}
 
 pub routines-init : goal.routines-init
 routines-init c = none_yet draw_routine c.args.draws.now (map plain_routine c.new-routines.result.items) (ap (map plain_routine) c.new-routines.ensures.empty)

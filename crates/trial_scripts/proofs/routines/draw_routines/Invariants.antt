@@ -1,8 +1,5 @@
-use Rattle.routine_reader.specs.Scripts.{plain_routine}
-use Rattle.std.proofs.Common.{map, ◌≡◌}
+use Rattle.trial_scripts.proofs.Prelude.{draw_each, draw_routine, map, plain_routine, ◌≡◌}
 use Rattle.trial_scripts.proofs.routines.draw_routines.Given as goal
-use Rattle.trial_scripts.specs.Drawings.{draw_each}
-use Rattle.trial_scripts.specs.TrialRoutines.{draw_routine}
 
 -- the routines so far
 abbrev pub invariant-routines : goal.invariant-routines

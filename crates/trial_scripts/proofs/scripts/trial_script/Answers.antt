@@ -1,9 +1,6 @@
-use Rattle.routine_reader.specs.Sound.{IsSound}
-use Rattle.routine_reader.specs.Scripts.{plain_script}
-use Rattle.std.proofs.Common.{rules, subst, sym, ◌≡◌}
+use Rattle.trial_scripts.proofs.Prelude.{IsSound, plain_script, rules, subst, sym, trial_script, ◌≡◌}
 use Rattle.trial_scripts.proofs.TrialSound.{trial_is_sound}
 use Rattle.trial_scripts.proofs.scripts.trial_script.Goals as goal
-use Rattle.trial_scripts.specs.TrialScripts.{trial_script}
 
 pub returns-clause-sound : goal.returns-clause-sound
 unfolding trial_script

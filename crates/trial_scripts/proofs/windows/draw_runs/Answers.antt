@@ -1,6 +1,6 @@
 use Rattle.trial_scripts.proofs.DrawnEach.{none_yet, one_more}
 use Rattle.trial_scripts.proofs.windows.draw_runs.Goals as goal
-use Rattle.trial_scripts.specs.TrialWindows.{draw_run}
+use Rattle.trial_scripts.proofs.Prelude.{draw_run}
 
 pub runs-init : goal.runs-init
 runs-init c = none_yet (λ _. draw_run) c.args.draws.now c.new-runs.result.items c.new-runs.ensures.empty

@@ -1,7 +1,5 @@
-use Rattle.std.proofs.Common.{◌≡◌}
+use Rattle.trial_scripts.proofs.Prelude.{draw_each, draw_run, ◌≡◌}
 use Rattle.trial_scripts.proofs.windows.draw_runs.Given as goal
-use Rattle.trial_scripts.specs.Drawings.{draw_each}
-use Rattle.trial_scripts.specs.TrialWindows.{draw_run}
 
 -- the runs so far
 abbrev pub invariant-runs : goal.invariant-runs

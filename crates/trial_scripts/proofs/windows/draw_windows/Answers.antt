@@ -1,8 +1,6 @@
-use Rattle.routine_reader.specs.Scripts.{plain_window}
-use Rattle.std.proofs.Common.{ap, map}
+use Rattle.trial_scripts.proofs.Prelude.{ap, draw_window, map, plain_window}
 use Rattle.trial_scripts.proofs.DrawnEach.{none_yet, one_more_seen}
 use Rattle.trial_scripts.proofs.windows.draw_windows.Goals as goal
-use Rattle.trial_scripts.specs.TrialWindows.{draw_window}
 
 pub windows-init : goal.windows-init
 windows-init c = none_yet draw_window c.args.draws.now (map plain_window c.new-windows.result.items) (ap (map plain_window) c.new-windows.ensures.empty)

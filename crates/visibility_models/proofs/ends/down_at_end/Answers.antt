@@ -1,5 +1,4 @@
-use Rattle.command_rules.specs.Rosters.{device_no}
-use Rattle.std.proofs.Common.{ap, option_map, sym, ◌∙◌}
+use Rattle.visibility_models.proofs.Prelude.{ap, device_no, option_map, sym, ◌∙◌}
 use Rattle.visibility_models.proofs.DownDevices.{down_is}
 use Rattle.visibility_models.proofs.LineRuns.{on_its_way}
 use Rattle.visibility_models.proofs.ends.down_at_end.Goals as goal

@@ -1,8 +1,5 @@
-use Rattle.std.proofs.Common.{length, ◌-◌, ◌≡◌, ◌≤◌}
-use Rattle.std.specs.List.{range_with_len}
-use Rattle.std.specs.Prelude.{find}
+use Rattle.visibility_models.proofs.Prelude.{find, first_down_for, is_down_for, length, range_with_len, ◌-◌, ◌≡◌, ◌≤◌}
 use Rattle.visibility_models.proofs.ends.find_down.Given as goal
-use Rattle.visibility_models.specs.Searches.{first_down_for, is_down_for}
 
 -- no device so far is down for the run
 abbrev pub invariant-devices : goal.invariant-devices

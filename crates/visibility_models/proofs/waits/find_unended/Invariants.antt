@@ -1,8 +1,5 @@
-use Rattle.lock_leasing.specs.Waits.{model_bars}
-use Rattle.serial_line.specs.Marks.{items_of}
-use Rattle.std.proofs.Common.{drop, length, ◌≡◌}
+use Rattle.visibility_models.proofs.Prelude.{drop, first_unended_before, items_of, length, model_bars, ◌≡◌}
 use Rattle.visibility_models.proofs.waits.find_unended.Given as goal
-use Rattle.visibility_models.specs.Searches.{first_unended_before}
 
 -- no item so far is the run, nor one for which it waits
 abbrev pub invariant-items : goal.invariant-items

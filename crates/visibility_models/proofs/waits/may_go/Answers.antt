@@ -1,5 +1,4 @@
-use Rattle.lock_leasing.specs.Waits.{model_bars}
-use Rattle.std.proofs.Common.{sym, ◌∙◌}
+use Rattle.visibility_models.proofs.Prelude.{model_bars, sym, ◌∙◌}
 use Rattle.visibility_models.proofs.Fronts.{waits_from_front}
 use Rattle.visibility_models.proofs.LineRuns.{on_its_way}
 use Rattle.visibility_models.proofs.StrictWaits.{wait_is}

@@ -1,7 +1,5 @@
 use Rattle.window_devices.proofs.closings.rises_in.Given as goal
-use Rattle.window_devices.specs.LeftDevices.{HaveRisen}
-use Rattle.window_devices.specs.declared.known.DeviceProgress.{DeviceProgress}
-use Rattle.std.proofs.Common.{length, ◌+◌, ◌≤◌}
+use Rattle.window_devices.proofs.Prelude.{DeviceProgress, HaveRisen, length, ◌+◌, ◌≤◌}
 
 -- the counts of the devices up to here rose so, and there is room for the others
 abbrev pub invariant-devices : goal.invariant-devices

@@ -1,6 +1,5 @@
 use Rattle.window_devices.proofs.closings.stands_known.Given as goal
-use Rattle.window_devices.specs.LeftDevices.{all_known_left}
-use Rattle.std.proofs.Common.{length, ◌+◌, ◌≡◌, ◌≤◌}
+use Rattle.window_devices.proofs.Prelude.{all_known_left, length, ◌+◌, ◌≡◌, ◌≤◌}
 
 -- the devices up to here stand so, and there is room for the others
 abbrev pub invariant-devices : goal.invariant-devices

@@ -1,5 +1,5 @@
 use Rattle.window_devices.proofs.openings.known_devices.Given as goal
-use Rattle.window_devices.specs.KnownDevices.{AreKnown}
+use Rattle.window_devices.proofs.Prelude.{AreKnown}
 
 -- the devices up to here are known
 abbrev pub invariant-devices : goal.invariant-devices

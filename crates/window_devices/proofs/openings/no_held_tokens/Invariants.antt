@@ -1,5 +1,5 @@
 use Rattle.window_devices.proofs.openings.no_held_tokens.Given as goal
-use Rattle.std.proofs.Common.{None, replicate, ◌≡◌}
+use Rattle.window_devices.proofs.Prelude.{None, replicate, ◌≡◌}
 
 -- so many runs up to here
 abbrev pub invariant-runs : goal.invariant-runs

@@ -1,8 +1,4 @@
-use Rattle.command_rules.specs.Rosters.{plain_run}
-use Rattle.home_types.specs.declared.commands.Command.{Command}
-use Rattle.std.proofs.Common.{length, subst, sym, ◌<◌, ◌≤◌}
-use Rattle.std.specs.List.{All}
-use Rattle.std.specs.Prelude.{List}
+use Rattle.window_order.proofs.Prelude.{All, Command, List, length, plain_run, subst, sym, ◌<◌, ◌≤◌}
 use Rattle.window_order.proofs.MadeRoom.{HasRoomUpTo, homed_at, room_left, room_made, room_none, room_there, room_whole}
 use Rattle.window_order.proofs.joins.make_room_on_each.Goals as goal
 use Rattle.window_order.proofs.joins.make_room_on_each.Goals.{else-not-is_on_some, then-not-is_on_some+in_ok-make_room}

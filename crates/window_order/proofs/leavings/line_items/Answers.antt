@@ -1,7 +1,6 @@
 use Rattle.home_types.proofs.Cited.{take_snoc}
 use Rattle.window_order.proofs.leavings.line_items.Goals as goal
-use Rattle.serial_line.specs.Marks.{items_of}
-use Rattle.std.proofs.Common.{[], ap, arith, length, sym, ◌++◌, ◌<◌, ◌∙◌, ◌∷◌}
+use Rattle.window_order.proofs.Prelude.{[], ap, arith, items_of, length, sym, ◌++◌, ◌<◌, ◌∙◌, ◌∷◌}
 
 pub items-preserved : goal.items-preserved
 items-preserved c =

@@ -1,6 +1,5 @@
 use Rattle.window_order.proofs.leavings.line_items.Given as goal
-use Rattle.serial_line.specs.Marks.{items_of}
-use Rattle.std.proofs.Common.{length, take, ◌+◌, ◌≡◌, ◌≤◌}
+use Rattle.window_order.proofs.Prelude.{items_of, length, take, ◌+◌, ◌≡◌, ◌≤◌}
 
 -- the items up to here, with room for the others
 abbrev pub invariant-items : goal.invariant-items

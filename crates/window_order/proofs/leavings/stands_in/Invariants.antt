@@ -1,6 +1,6 @@
 use Rattle.window_order.proofs.leavings.stands_in.Given as goal
 use Rattle.window_order.specs.Leavings.{stand_left}
-use Rattle.std.proofs.Common.{length, map, take, ◌+◌, ◌≡◌, ◌≤◌}
+use Rattle.window_order.proofs.Prelude.{length, map, take, ◌+◌, ◌≡◌, ◌≤◌}
 
 -- the devices up to here stand so, and there is room for the others
 abbrev pub invariant-devices : goal.invariant-devices

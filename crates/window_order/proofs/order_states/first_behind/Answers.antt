@@ -1,10 +1,6 @@
 use Rattle.window_order.proofs.Scheduling.{found_first, found_none}
 use Rattle.window_order.proofs.order_states.first_behind.Goals as goal
-use Rattle.lineage_table.specs.Lineages.{accesses_at}
-use Rattle.serial_line.specs.Marks.{items_of}
-use Rattle.std.proofs.Common.{ap, sym, ◌∙◌}
-use Rattle.std.specs.Prelude.{option_to_list}
-use Rattle.window_order.specs.TableChanges.{first_with_access}
+use Rattle.window_order.proofs.Prelude.{accesses_at, ap, first_with_access, items_of, option_to_list, sym, ◌∙◌}
 
 pub returns-then-is_some : goal.returns-then-is_some
 returns-then-is_some c =

@@ -1,8 +1,5 @@
 use Rattle.window_order.proofs.order_states.first_behind.Given as goal
-use Rattle.lineage_table.specs.Lineages.{accesses_at}
-use Rattle.serial_line.specs.Marks.{items_of}
-use Rattle.std.proofs.Common.{drop, ◌≡◌}
-use Rattle.window_order.specs.TableChanges.{first_with_access}
+use Rattle.window_order.proofs.Prelude.{accesses_at, drop, first_with_access, items_of, ◌≡◌}
 
 -- no run from the place up to here has an access
 abbrev pub invariant-items : goal.invariant-items

@@ -1,8 +1,4 @@
-use Rattle.command_rules.specs.Rosters.{is_on}
-use Rattle.home_types.specs.declared.commands.Command.{Command}
-use Rattle.std.proofs.Common.{ap, subst, sym, ◌<◌, ◌∙◌}
-use Rattle.std.specs.List.{All, list_any}
-use Rattle.std.specs.Prelude.{List, length}
+use Rattle.window_order.proofs.Prelude.{All, Command, List, ap, is_on, length, list_any, subst, sym, ◌<◌, ◌∙◌}
 use Rattle.window_order.proofs.Scheduling.{may_schedule, on_command, schedules, schedules_none, schedules_start}
 use Rattle.window_order.proofs.order_states.schedule.Goals as goal
 use Rattle.window_order.proofs.order_states.schedule.Goals.{in-Some, in_default}

@@ -1,7 +1,6 @@
 use Rattle.window_order.proofs.Scheduling.{IsScheduledTo}
 use Rattle.window_order.proofs.order_states.schedule.Given as goal
-use Rattle.serial_line.specs.Marks.{items_of}
-use Rattle.std.proofs.Common.{drop}
+use Rattle.window_order.proofs.Prelude.{drop, items_of}
 
 -- the run has its access on the devices of the commands up to here
 abbrev pub invariant-commands : goal.invariant-commands

@@ -1,10 +1,7 @@
 use Rattle.window_order.proofs.NotedAnswers.{acquired_now, lineage_set}
 use Rattle.window_order.proofs.PassedRuns.{passed_all, passed_one, passes_run}
 use Rattle.window_order.proofs.releases.pass_before.Goals as goal
-use Rattle.home_types.specs.declared.commands.View.TheVariants.{Down}
-use Rattle.lineage_table.specs.Accesses.{status_of}
-use Rattle.lineage_table.specs.Lineages.{LineageState, accesses_at, acquired, lineage_at}
-use Rattle.std.proofs.Common.{ap, arith, length, sym, ◌<◌, ◌∙◌}
+use Rattle.window_order.proofs.Prelude.{Down, LineageState, accesses_at, acquired, ap, arith, length, lineage_at, status_of, sym, ◌<◌, ◌∙◌}
 
 pub acquire-requires-clause-scheduled : goal.acquire-requires-clause-scheduled
 acquire-requires-clause-scheduled c = (passes_run c.args.r.0 c.in-Some.doomed (lineage_at c.passing.table c.args.d.0) c.scheduled_before.ensures.disciplined c.passing.invariant.waiting (sym c.scheduled_before.ensures.found ∙ c.in-Some.is)).first.scheduled

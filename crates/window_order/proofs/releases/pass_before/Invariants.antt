@@ -1,8 +1,6 @@
 use Rattle.window_order.proofs.releases.pass_before.Given as goal
-use Rattle.lineage_table.specs.Lineages.{accesses_at, lineage_at, with_lineage}
-use Rattle.std.proofs.Common.{length, ◌≡◌}
+use Rattle.window_order.proofs.Prelude.{IsWaiting, accesses_at, length, lineage_at, passed, with_lineage, ◌≡◌}
 use Rattle.window_order.proofs.PassedAccesses.{waits_before}
-use Rattle.window_order.specs.TableChanges.{IsWaiting, passed}
 
 -- with the rest passed the table is what it is when all are, and the run still waits
 abbrev pub invariant-passing : goal.invariant-passing

@@ -1,7 +1,6 @@
 use Rattle.window_order.proofs.PassedRuns.{dooms_nothing}
 use Rattle.window_order.proofs.releases.release_all.Goals as goal
-use Rattle.lineage_table.proofs.Cited.{changed_all, changed_more, changed_none}
-use Rattle.window_order.specs.TableChanges.{doomed_unless}
+use Rattle.window_order.proofs.Prelude.{changed_all, changed_more, changed_none, doomed_unless}
 
 pub devices-init : goal.devices-init
 devices-init c = changed_none (doomed_unless c.args.out c.args.r.0) c.args.table.now

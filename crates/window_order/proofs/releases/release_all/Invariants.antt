@@ -1,7 +1,5 @@
 use Rattle.window_order.proofs.releases.release_all.Given as goal
-use Rattle.lineage_table.proofs.Cited.{ChangedUpTo}
-use Rattle.std.proofs.Common.{length, ◌-◌}
-use Rattle.window_order.specs.TableChanges.{doomed_unless}
+use Rattle.window_order.proofs.Prelude.{ChangedUpTo, doomed_unless, length, ◌-◌}
 
 -- the run is done with the devices up to here, and with no other
 abbrev pub invariant-devices : goal.invariant-devices

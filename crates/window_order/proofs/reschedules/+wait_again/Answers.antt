@@ -1,9 +1,6 @@
 use Rattle.window_order.proofs.WaitingAgain.{again_before, again_new, again_room, fewer_again, leaves_absent, leaves_waiting, one_again, put_again}
 use Rattle.window_order.proofs.reschedules.+wait_again.Goals as goal
-use Rattle.lineage_table.specs.Accesses.{has_access}
-use Rattle.lineage_table.specs.Lineages.{accesses_at, scheduled, with_lineage}
-use Rattle.lineage_table.specs.declared.accesses.Access.{Access}
-use Rattle.std.proofs.Common.{ap, arith, sym, ◌∙◌}
+use Rattle.window_order.proofs.Prelude.{Access, accesses_at, ap, arith, has_access, scheduled, sym, with_lineage, ◌∙◌}
 
 pub returns-in_default-access : goal.returns-in_default-access
 returns-in_default-access t c = leaves_absent c.args.table.now c.args.d.0 c.args.first c.in-Some.q c.in-Some.is (sym c.in_default-access.is ∙ c.access.ensures)

@@ -1,7 +1,5 @@
 use Rattle.window_order.proofs.reschedules.+wait_again.Given as goal
-use Rattle.lineage_table.specs.Lineages.{accesses_at}
-use Rattle.std.proofs.Common.{length}
-use Rattle.window_order.specs.TableChanges.{accesses_from}
+use Rattle.window_order.proofs.Prelude.{accesses_at, accesses_from, length}
 
 -- how many accesses are left
 abbrev pub decreases-wait_again : goal.decreases-wait_again

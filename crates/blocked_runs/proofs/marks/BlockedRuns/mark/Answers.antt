@@ -1,7 +1,6 @@
 use Rattle.blocked_runs.proofs.marks.BlockedRuns.mark.Goals as goal
 use Rattle.blocked_runs.proofs.Marking.{has_marked}
-use Rattle.std.proofs.Common.{sym}
-use Rattle.std.proofs.lemmas.Option.{slice_get_within}
+use Rattle.blocked_runs.proofs.Prelude.{slice_get_within, sym}
 
 pub returns : goal.returns
 returns c =

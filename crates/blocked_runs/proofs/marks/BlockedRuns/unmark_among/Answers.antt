@@ -1,9 +1,7 @@
 use Rattle.command_rules.proofs.Cited.{device_below}
-use Rattle.command_rules.specs.Rosters.{commands_of, runs_of, touches}
-use Rattle.home_types.specs.Limits.{most_devices}
+use Rattle.blocked_runs.proofs.Prelude.{arith, commands_of, most_devices, runs_of, sym, touches, ◌<◌, ◌∙◌}
 use Rattle.blocked_runs.proofs.marks.BlockedRuns.unmark_among.Goals as goal
 use Rattle.blocked_runs.proofs.Marking.{all_left, left_done, left_more}
-use Rattle.std.proofs.Common.{arith, sym, ◌<◌, ◌∙◌}
 
 pub overflow_add-from : goal.overflow_add-from
 overflow_add-from c =

@@ -1,8 +1,5 @@
-use Rattle.command_rules.specs.Rosters.{runs_of, touches}
-use Rattle.home_types.specs.Limits.{most_devices}
+use Rattle.blocked_runs.proofs.Prelude.{AreLeft, false, most_devices, runs_of, touches, ◌-◌, ◌<◌, ◌≡◌}
 use Rattle.blocked_runs.proofs.marks.BlockedRuns.unmark_among.Given as goal
-use Rattle.blocked_runs.specs.Marks.{AreLeft}
-use Rattle.std.proofs.Common.{false, ◌-◌, ◌<◌, ◌≡◌}
 
 -- those of the run's devices up to here are unmarked
 abbrev pub invariant-marked : goal.invariant-marked

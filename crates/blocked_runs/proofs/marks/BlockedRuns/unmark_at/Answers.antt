@@ -1,7 +1,6 @@
 use Rattle.blocked_runs.proofs.marks.BlockedRuns.unmark_at.Goals as goal
 use Rattle.blocked_runs.proofs.Marking.{are_unmarked, none_there}
-use Rattle.std.proofs.Common.{rules, sym, ◌<◌, ◌^◌}
-use Rattle.std.proofs.lemmas.Option.{slice_get_within}
+use Rattle.blocked_runs.proofs.Prelude.{rules, slice_get_within, sym, ◌<◌, ◌^◌}
 
 pub returns-in_default : goal.returns-in_default
 returns-in_default c = rw (← c.self.view_is) (none_there _ c.args.d.0 c.in_default.ensures)

@@ -1,7 +1,6 @@
 use Rattle.chain_arena.proofs.Chains.{still_there}
 use Rattle.chain_arena.proofs.chain.Chain.get.Goals as goal
-use Rattle.chain_arena.specs.Chains.{has_knot}
-use Rattle.std.proofs.Common.{ap, refl, ◌∙◌}
+use Rattle.chain_arena.proofs.Prelude.{ap, has_knot, refl, ◌∙◌}
 
 pub get-requires : goal.get-requires
 get-requires g c =

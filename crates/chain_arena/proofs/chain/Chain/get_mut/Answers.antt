@@ -1,8 +1,7 @@
 use Rattle.chain_arena.proofs.Chains.{still_there}
 use Rattle.chain_arena.proofs.Values.{set_done}
 use Rattle.chain_arena.proofs.chain.Chain.get_mut.Goals as goal
-use Rattle.chain_arena.specs.Chains.{has_knot, set_value, value_at}
-use Rattle.std.proofs.Common.{ap, refl, sym, ◌∙◌}
+use Rattle.chain_arena.proofs.Prelude.{ap, has_knot, refl, set_value, sym, value_at, ◌∙◌}
 
 pub get_mut-requires : goal.get_mut-requires
 get_mut-requires g c =

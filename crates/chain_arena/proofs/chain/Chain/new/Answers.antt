@@ -1,6 +1,6 @@
 use Rattle.chain_arena.proofs.Chains.{linked}
 use Rattle.chain_arena.proofs.chain.Chain.new.Goals as goal
-use Rattle.std.proofs.Common.{[]}
+use Rattle.chain_arena.proofs.Prelude.{[]}
 
 pub invariant_of-result : goal.invariant_of-result
 invariant_of-result g c = (linked c.new.result [] c.new.ensures.0).0

@@ -1,9 +1,7 @@
 use Rattle.chain_arena.proofs.Chains.{is_filled}
 use Rattle.chain_arena.proofs.Nexts.{cursor_behind, next_behind}
 use Rattle.chain_arena.proofs.chain.Chain.place_after.Goals as goal
-use Rattle.chain_arena.specs.Chains.{has_knot}
-use Rattle.chain_arena.specs.Linked.{pairs_of}
-use Rattle.std.proofs.Common.{ap, ◌∙◌}
+use Rattle.chain_arena.proofs.Prelude.{ap, has_knot, pairs_of, ◌∙◌}
 
 pub behind-requires : goal.behind-requires
 behind-requires g c =

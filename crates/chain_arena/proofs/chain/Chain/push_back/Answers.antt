@@ -1,8 +1,8 @@
 use Rattle.chain_arena.proofs.Chains.{no_nil}
 use Rattle.chain_arena.proofs.Words.{put_last}
 use Rattle.chain_arena.proofs.chain.Chain.push_back.Goals as goal
-use Rattle.chain_arena.specs.Linked.{knot, nil, pairs_of}
-use Rattle.std.proofs.Common.{[], ap, ◌++◌, ◌∙◌, ◌∷◌}
+use Rattle.chain_arena.proofs.Prelude.{[], ap, knot, nil, pairs_of, ◌∙◌, ◌∷◌}
+use Rattle.std.proofs.Common.{◌++◌}
 
 pub returns-clause-pairs : goal.returns-clause-pairs
 returns-clause-pairs g c =

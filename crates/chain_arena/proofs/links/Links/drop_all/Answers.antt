@@ -1,8 +1,7 @@
 use Rattle.chain_arena.proofs.Chains.{first_on, none_left}
 use Rattle.chain_arena.proofs.Words.{length_without}
 use Rattle.chain_arena.proofs.links.Links.drop_all.Goals as goal
-use Rattle.chain_arena.specs.Linked.{pairs_of}
-use Rattle.std.proofs.Common.{ap, arith, length}
+use Rattle.chain_arena.proofs.Prelude.{ap, arith, length, pairs_of}
 
 pub left-smaller : goal.left-smaller
 left-smaller g c =

@@ -1,6 +1,5 @@
 use Rattle.chain_arena.proofs.links.Links.drop_all.Given as goal
-use Rattle.chain_arena.specs.Linked.{IsLinked, pairs_of}
-use Rattle.std.proofs.Common.{length}
+use Rattle.chain_arena.proofs.Prelude.{IsLinked, length, pairs_of}
 
 abbrev pub invariant-left : goal.invariant-left
 invariant-left g l = IsLinked l.self

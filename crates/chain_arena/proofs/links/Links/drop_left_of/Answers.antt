@@ -1,8 +1,6 @@
 use Rattle.chain_arena.proofs.Drops.{HeadGone, head_gone}
 use Rattle.chain_arena.proofs.links.Links.drop_left_of.Goals as goal
-use Rattle.chain_arena.specs.Chains.{from_knot, has_knot}
-use Rattle.chain_arena.specs.Linked.{left, pairs_of, right}
-use Rattle.std.proofs.Common.{ap, arith, length, refl, ◌∙◌}
+use Rattle.chain_arena.proofs.Prelude.{ap, arith, from_knot, has_knot, left, length, pairs_of, refl, right, ◌∙◌}
 
 pub left-smaller : goal.left-smaller
 left-smaller g c =

@@ -1,7 +1,5 @@
 use Rattle.chain_arena.proofs.links.Links.drop_left_of.Given as goal
-use Rattle.chain_arena.specs.Chains.{from_knot, has_knot}
-use Rattle.chain_arena.specs.Linked.{IsLinked, pairs_of}
-use Rattle.std.proofs.Common.{length, true, ◌+◌, ◌≡◌}
+use Rattle.chain_arena.proofs.Prelude.{IsLinked, from_knot, has_knot, length, pairs_of, true, ◌+◌, ◌≡◌}
 
 abbrev pub invariant-left : goal.invariant-left
 invariant-left g l =

@@ -1,7 +1,6 @@
 use Rattle.chain_arena.proofs.Places.{emptied_in}
-use Rattle.std.proofs.lemmas.Option.{slice_get_within}
+use Rattle.chain_arena.proofs.Prelude.{arith, refl, slice_get_within, sym, ◌+◌, ◌∙◌}
 use Rattle.chain_arena.proofs.links.Links.empty.Goals as goal
-use Rattle.std.proofs.Common.{◌+◌, arith, refl, sym, ◌∙◌}
 
 pub returns : goal.returns
 returns g c =

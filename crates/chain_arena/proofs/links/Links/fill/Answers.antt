@@ -1,6 +1,7 @@
 use Rattle.chain_arena.proofs.Places.{filled_in, free_within}
 use Rattle.chain_arena.proofs.links.Links.fill.Goals as goal
-use Rattle.std.proofs.Common.{◌-◌, arith, refl}
+use Rattle.chain_arena.proofs.Prelude.{arith, refl}
+use Rattle.std.proofs.Common.{◌-◌}
 
 pub returns : goal.returns
 returns g c =

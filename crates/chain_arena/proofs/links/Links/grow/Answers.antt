@@ -1,8 +1,7 @@
 use Rattle.chain_arena.proofs.Chains.{linked}
 use Rattle.chain_arena.proofs.Grows.{grows_from, grows_more}
 use Rattle.chain_arena.proofs.links.Links.grow.Goals as goal
-use Rattle.chain_arena.specs.Linked.{pairs_of}
-use Rattle.std.proofs.Common.{arith}
+use Rattle.chain_arena.proofs.Prelude.{arith, pairs_of}
 
 pub frees-init : goal.frees-init
 frees-init g c = grows_from c.args.self.now c.grow.new.self c.args.len c.requires.linked c.requires.more c.grow.ensures.items c.in-Ok.ensures.ok

@@ -1,7 +1,6 @@
 use Rattle.chain_arena.proofs.Chains.{link_free, link_kept, link_left, link_on, put_done}
 use Rattle.chain_arena.proofs.links.Links.put.Goals as goal
-use Rattle.chain_arena.specs.Linked.{IsLink, Joins}
-use Rattle.std.proofs.Common.{subst, sym, ◌∙◌}
+use Rattle.chain_arena.proofs.Prelude.{IsLink, Joins, subst, sym, ◌∙◌}
 
 pub left_of-before-requires : goal.left_of-before-requires
 left_of-before-requires g c = link_kept c.args.self.now c.fill-place.new.self c.args.at c.fill-place.ensures.places (link_on c.args.self.now c.args.at c.requires.linked c.requires.at)

@@ -1,6 +1,6 @@
 use Rattle.chain_arena.proofs.Places.{right_set}
 use Rattle.chain_arena.proofs.links.Links.set_right.Goals as goal
-use Rattle.std.proofs.Common.{arith, refl}
+use Rattle.chain_arena.proofs.Prelude.{arith, refl}
 
 pub returns-else-place-eq-NONE : goal.returns-else-place-eq-NONE
 returns-else-place-eq-NONE g c =

@@ -1,7 +1,6 @@
 use Rattle.chain_arena.proofs.Chains.{link_left, link_on, link_right, still_there, unlink_done}
 use Rattle.chain_arena.proofs.links.Links.unlink.Goals as goal
-use Rattle.chain_arena.specs.Linked.{IsLink, Joins, right}
-use Rattle.std.proofs.Common.{inr, subst, sym}
+use Rattle.chain_arena.proofs.Prelude.{IsLink, Joins, inr, right, subst, sym}
 
 pub left_of-before-requires : goal.left_of-before-requires
 left_of-before-requires g c = link_on c.args.self.now c.args.place c.requires.linked (inr c.requires.there)

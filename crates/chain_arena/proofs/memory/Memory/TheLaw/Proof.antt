@@ -1,27 +1,21 @@
 -- A `&` to the block shows its values.
-use Prim.Native.Nat.{◌+◌, ◌*◌, ◌^◌}
+use Rattle.chain_arena.proofs.Prelude.{Array, Ghosts, Incl-trans, Lends-both, Lends-first, Lends-lies, Lends-said, RattleType, flt, lent_at, meet_⊑_left, of_Lends, type_size, ◌*◌, ◌++◌, ◌^◌}
+use Prim.Native.Nat.{◌+◌}
 use Rattle.chain_arena.proofs.memory.Memory.TheLaw.Statement.{statement}
 use Rattle.chain_arena.specs.contracts.memory.Memory as C
-use Rattle.core.specs.Mem.{type_size}
 use Rattle.core.specs.contracts.marker.PhantomData as P
-use Rattle.core.specs.declared.alloc.Allocator.{Ghosts}
 use Rattle.std_alloc.proofs.SharedLaws.{lent_shr_laws}
 use Rattle.std_alloc.specs.Vec.Ownership.{vec_shares}
 use denote.SharingLaws.{beside_shr_laws, said_shr_laws}
-use base.Fml.{Incl-trans, flt}
-use contract.BorrowLft.{meet_⊑_left}
-use denote.Array.{Array}
 use denote.ArrayMemory.{Single}
 use denote.Param.Laws.{Laws}
 use denote.Param.Shared.{copy_shared}
-use denote.RattleType.{RattleType}
 use denote.Shares.{Shares-Array, Shares-less}
 use denote.Sharing.{said}
 use denote.Struct.Field.{RawPtr-field}
 use denote.Struct.Laws.{RawPtr-copy, field_copy}
-use denote.Struct.Lending.{Lends-both, Lends-first, Lends-lies, Lends-said, lent_at, of_Lends}
 use lib.ListN.{length}
-use mathlib.Core.List.{[], ◌++◌}
+use mathlib.Core.List.{[]}
 use mathlib.Core.Path.{subst, sym}
 
 pub shares : (R B : RattleType) (g : Ghosts B.Denot) (L : Laws R) (K : Laws B) → statement R B g L K

@@ -1,22 +1,9 @@
 -- The block may go to another thread where its values may.
-use Prim.Native.Nat.{◌*◌, ◌-◌}
-use Rattle.chain_arena.specs.contracts.memory.Memory.{the_row, the_type}
-use Rattle.core.specs.Mem.{type_size}
+use Rattle.chain_arena.proofs.Prelude.{AllSend, Array, Frees, Ghosts, IsSend, Ptr, RattleType, RawPtr, Ty, array_send, block_ptr, exits_of, fields, lies, lone, null_ptr, owning_send, quiet, room_for, sendable, shape, struct_send, the_row, the_type, to, ty_array, type_size, ◌*◌, ◌+ₚ◌, ◌-◌}
 use Rattle.core.specs.contracts.marker.PhantomData as Ph
-use Rattle.core.specs.declared.alloc.Allocator.{Ghosts}
-use Rattle.std_alloc.proofs.SendSync.{lies, quiet}
 use base.Shift.{Keyless}
-use denote.Array.{Array}
-use denote.Builtin.{RawPtr}
-use denote.Memory.{lone}
-use denote.Param.Send.{AllSend, Frees, IsSend, array_send, owning_send, sendable, struct_send}
-use denote.RattleType.{RattleType}
-use denote.RawPtr.{Ptr, block_ptr, null_ptr, room_for, ◌+ₚ◌}
-use denote.Struct.Owning.{fields, shape, to}
-use denote.Struct.Struct.{exits_of}
 use lib.ListN.{length}
 use mir.Raw.{raw}
-use mir.Syntax.{Ty, ty_array}
 
 -- mere room names no key
 room : (τ : Ty) (p : Ptr) → Keyless (room_for τ p)

@@ -1,13 +1,6 @@
 -- Threads may share the block where they may share its values.
-use Rattle.chain_arena.specs.contracts.memory.Memory.{the_row, the_type}
+use Rattle.chain_arena.proofs.Prelude.{Array, Ghosts, IsSync, RattleType, RawPtr, array_sync, seen, sendable, shape, struct_sync, the_row, the_type, to}
 use Rattle.core.specs.contracts.marker.PhantomData as Ph
-use Rattle.core.specs.declared.alloc.Allocator.{Ghosts}
-use Rattle.std_alloc.proofs.SendSync.{seen}
-use denote.Array.{Array}
-use denote.Builtin.{RawPtr}
-use denote.Param.Send.{IsSync, array_sync, sendable, struct_sync}
-use denote.RattleType.{RattleType}
-use denote.Struct.Owning.{shape, to}
 use lib.ListN.{length}
 
 pointer : IsSync RawPtr

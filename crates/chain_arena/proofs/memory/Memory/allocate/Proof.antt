@@ -1,82 +1,24 @@
 -- `allocate` asks for the room of an array, and has none of its values yet.
-use Prim.Native.Nat.{◌*◌, ◌+◌, ◌-◌, ◌<◌, ◌^◌, ℕ}
+use Rattle.chain_arena.proofs.Prelude.{ !, Answer-typed, Answered, Array, Body, Clauses, El, Ended, Env, FitsBlock, Fn, Fun, Goes-dropped, Incl-trans, Logic, Meets, Memory, P, R, RattleType, RefOf, Routine, SProp, Stays, Tables, Takes, Takes-gives, Takes-goes, Triple, Ura, Val, WT, Wp, WpFn, WpFn-mono, after, after_seq, agg, align, align-raw, align_word, alloc_all, and_then, answers, any_q, args, arm_body, as_written, at_ret, at_return, at_takes, await, bin, block_ptr, by, calls_at, capped, capped_fits, capped_is, closing, done, drop, elτ, empty, ends_at, ent, enter, entered, env, exec, fact, feq_l, first, fjoin, fld, flft, flt_l, fm_of, free_all, front, froom, fsplit, fsplit3, ftrue, full_share, get, get_in, get_tag, heard, id⊢, in_variant, inst_fn, join, keep, lands_as, later, lit, lit<, live, look_at, move, no_more, nothing, of_list, of_opd, one_below, owns, part_at, pass_all, plain, qed, raw, returns, room_split, says, sem, sep, sets, sets_last, size-raw, size_lit, split, stay_dropped, stop, suffices, switches_on, sz, tables, takes_key, triple_of, ty_array, types_at, use0, use1, use2, usize, vcons, vint, vnil, vptr, vrt, w64, walk_Meets, walk_of, whole, wider, yes, ‵, ◌$◌, ◌*◌, ◌++◌, ◌-◌, ◌<◌, ◌^◌, ◌∵◌, ◌⊑◌, ◌⊛◌}
+use Prim.Native.Nat.{◌+◌, ℕ}
 use Rattle.chain_arena.proofs.Opened.{Held, Mr}
 use Rattle.chain_arena.proofs.memory.Memory.allocate.Code as code
 use Rattle.chain_arena.proofs.memory.Memory.allocate.Statement as stated
 use Rattle.chain_arena.specs.contracts.memory.Memory.allocate as F
 use Rattle.chain_arena.specs.contracts.memory.Memory.allocate.Key as key
-use Rattle.core.proofs.ptr.Rows.{one_below}
-use Rattle.std_alloc.proofs.VecSteps.El.{El, R, args, elτ, sz, wider}
-use Rattle.std_alloc.proofs.VecSteps.Shapes.{after}
-use base.Fml.{flft, froom, ftrue}
-use base.Fraction.{full_share}
-use base.Logic.{SProp, ent, id⊢}
-use contract.BorrowLft.{◌⊑◌}
-use contract.Monad.{Fun, fact}
-use contract.Running.{tables, tables_of}
-use denote.Array.{Array}
-use denote.Builtin.{usize}
-use denote.Exit.{yes}
-use denote.Memory.{part_at}
-use denote.RattleType.{owns}
-use denote.Signature.{plain, types_at}
-use denote.Steps.{heard, nothing}
-use denote.Triple.Clauses.{Clauses, Ended, closing}
-use denote.Triple.Spec.{Meets, triple_of}
-use denote.Triple.Table.{entered}
-use denote.Triple.Walked.{Goes-dropped, Stays, ends_at, stay_dropped, walk_Meets, walk_of}
+use contract.Running.{tables_of}
 use mathlib.Core.Bool.{false, true}
-use mathlib.Core.List.{List, [], ◌++◌, ◌∷◌}
+use mathlib.Core.List.{List, [], ◌∷◌}
 use mathlib.Core.Path.{ap, refl, subst, sym, ◌∙◌, ◌≡◌}
-use mir.MapTy.{inst_fn}
-use mir.Syntax.{Fn, ty_array, w64}
-use mir.Val.{Val, vint, vptr}
 use native.Mathlib.Omega.{arith}
-use prog.Memory.{Memory}
-use prog.Routine.{Routine}
-use prog.Wp.{Env, Tables, WpFn}
-use seplogic.Ra.Ura.{Ura}
-use sound.WpLaws.{WpFn-mono}
-use types.ByLocal.{alloc_all, env, free_all, get, look_at, pass_all, sets}
-use types.Kit.{ !, at_ret, done, drop, feq_l, fjoin, flt_l, fsplit, fsplit3, join, keep, move, qed, raw, split, suffices, use1, use2, ‵, ◌$◌, ◌∵◌, ◌⊛◌}
-use types.Logic.{Logic}
-use types.Part.{whole}
-use types.Run.{bin, enter, exec, first, fld, of_opd, returns, size_lit, stop}
 use Rattle.chain_arena.proofs.Opened.{made, word}
-use Rattle.core.proofs.alloc.Calls.{Answer-typed, Answered, Takes, Takes-gives, Takes-goes, answers, at_takes, takes_key}
-use Rattle.core.specs.Allocator.{FitsBlock}
 use Rattle.core.specs.contracts.option.Option as OP
 use Rattle.core.specs.declared.option.Option.TheVariants.{None, Some}
 use Rattle.core.specs.Option.{IfSome}
-use Rattle.std_alloc.proofs.VecSteps.El.{P}
 use Rattle.std_alloc.proofs.VecSteps.Element.{Some-of, none_of}
-use Rattle.std_alloc.proofs.VecSteps.Rows.{empty, room_split}
-use Rattle.std_alloc.proofs.VecSteps.Shapes.{arm_body, front}
-use Rattle.std_alloc.proofs.RawLayout.{as_written}
-use base.Fml.{Incl-trans}
-use base.Logic.{sep}
-use denote.Builtin.{RefOf}
-use denote.RattleType.{RattleType}
-use denote.RawPtr.{block_ptr}
-use denote.Triple.Call.{calls_at}
 use denote.Triple.Entry.{alive}
-use denote.Triple.Statement.{Triple}
-use denote.Triple.Walked.{says}
-use lib.Dec.{lit<}
 use mir.Raw.{raw as bare}
-use mir.Syntax.{Body}
-use mir.Val.{WT, of_list, vcons, vnil}
-use prog.Capped.{capped_fits, capped_is}
-use prog.Memory.{align, capped}
-use prog.RawLaws.{align-raw, size-raw}
-use prog.Wp.{Wp, after_seq, at_return}
-use sound.WpLaws.{fm_of}
-use types.ByLocal.{get_in, get_tag, lands_as, sets_last}
-use types.Kit.{Post as After, any_q, await, by, later, use0}
-use types.Logic.{sem}
-use types.Match.{in_variant, live, vrt}
-use types.Part.{agg}
-use types.Run.{align_word, and_then, lit, no_more, switches_on}
+use types.Kit.{Post as After}
 
 module _ (E : El) where
   abbrev here : Fn

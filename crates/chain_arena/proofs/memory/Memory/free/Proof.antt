@@ -1,63 +1,17 @@
 -- `free` gives the values up as mere room, and the room with the right to free it back to the allocator.
-use Prim.Native.Nat.{◌*◌, ◌<◌, ◌^◌, ℕ}
+use Rattle.chain_arena.proofs.Prelude.{ !, Clauses, El, Ended, Env, Fn, Fun, Gives, Gives-Gives, Gives-goes, Goes-dropped, Incl-trans, Logic, Meets, Memory, P, RefOf, Routine, SProp, Stays, T, Tables, Triple, Ura, Val, WT, WpFn, WpFn-mono, after, align, align-raw, align_word, all_room, alloc_all, and_then, args, at_gives, at_ret, await, bin, block_ptr, blocks, calls_at_last, capped, capped_fits, capped_is, closing, done, drop, elτ, ends_at, ent, enter, entered, env, exec, fact, feq_i, feq_l, first, fjoin, fld, flft, flt_l, fm_of, free_all, froom, fsplit, fsplit3, ftrue, get, get_in, given, gives_key, has_ty, heard, id⊢, inst_fn, join, keep, lands_last, later, learn, look_at, move, no, no_more, nothing, of_opd, owns, pass_all, plain, qed, raw, returns, rewrite, sets, size-raw, size_word, split, stay_dropped, stop, sub, suffices, sz, tables, times_capped, token, triple_of, ty_array, ty_unit, types_at, unit_lit, use1, use2, use3, usize, vint, vptr, vunit, w64, walk_Meets, walk_of, whole, wider, yes, ‵, ◌$◌, ◌*◌, ◌++◌, ◌<◌, ◌^◌, ◌∵◌, ◌⊑◌, ◌⊛◌}
+use Prim.Native.Nat.{ℕ}
 use Rattle.chain_arena.proofs.Opened.{Held, Mr, count}
 use Rattle.chain_arena.proofs.memory.Memory.free.Code as code
 use Rattle.chain_arena.proofs.memory.Memory.free.Statement as stated
 use Rattle.chain_arena.specs.contracts.memory.Memory.free as F
 use Rattle.chain_arena.specs.contracts.memory.Memory.free.Key as key
-use Rattle.std_alloc.proofs.VecSteps.El.{El, args, elτ, sz, wider}
-use Rattle.std_alloc.proofs.VecSteps.Shapes.{after}
-use base.Fml.{flft, froom, ftrue}
-use base.Logic.{SProp, ent, id⊢}
-use contract.BorrowLft.{◌⊑◌}
-use contract.Monad.{Fun, fact}
-use contract.Running.{tables, tables_of}
-use denote.Builtin.{usize}
-use denote.Exit.{no, yes}
-use denote.RattleType.{owns}
-use denote.Signature.{plain, types_at}
-use denote.Steps.{heard, nothing}
-use denote.Triple.Clauses.{Clauses, Ended, closing}
-use denote.Triple.Spec.{Meets, triple_of}
-use denote.Triple.Table.{entered}
-use denote.Triple.Walked.{Goes-dropped, Stays, ends_at, stay_dropped, walk_Meets, walk_of}
-use mathlib.Core.List.{List, [], ◌++◌, ◌∷◌}
+use contract.Running.{tables_of}
+use mathlib.Core.List.{List, [], ◌∷◌}
 use mathlib.Core.Path.{ap, refl, subst, sym, ◌∙◌, ◌≡◌}
-use mir.MapTy.{inst_fn}
-use mir.Syntax.{Fn, ty_array, w64}
-use mir.Val.{Val, vint, vptr, vunit}
 use native.Mathlib.Omega.{arith}
-use prog.Memory.{Memory}
-use prog.Routine.{Routine}
-use prog.Wp.{Env, Tables, WpFn}
-use seplogic.Ra.Ura.{Ura}
-use sound.WpLaws.{WpFn-mono}
-use types.ByLocal.{alloc_all, env, free_all, get, look_at, pass_all, sets}
-use types.Kit.{ !, at_ret, done, drop, feq_i, feq_l, fjoin, flt_l, fsplit, fsplit3, join, keep, move, qed, raw, rewrite, split, suffices, use1, use2, ‵, ◌$◌, ◌∵◌, ◌⊛◌}
-use types.Logic.{Logic}
-use types.Part.{sub, whole}
-use types.Run.{bin, blocks, enter, exec, first, fld, of_opd, returns, stop, unit_lit}
 use Rattle.chain_arena.proofs.Opened.{taken, word}
-use Rattle.core.proofs.alloc.Calls.{Gives, Gives-Gives, Gives-goes, at_gives, gives_key, token}
-use Rattle.core.proofs.alloc.Resizes.{times_capped}
-use Rattle.std_alloc.proofs.VecSteps.El.{P}
-use Rattle.std_alloc.proofs.VecSteps.Rows.{all_room}
-use base.Fml.{Incl-trans}
-use denote.Builtin.{RefOf}
-use denote.RawPtr.{block_ptr}
-use denote.Triple.Call.{calls_at_last}
-use denote.Triple.Statement.{Triple}
-use lib.Dec.{T}
 use mir.Raw.{raw as bare}
-use mir.Syntax.{ty_unit}
-use mir.Val.{WT, has_ty}
-use prog.Capped.{capped_fits, capped_is}
-use prog.Memory.{align, capped}
-use prog.RawLaws.{align-raw, size-raw}
-use sound.WpLaws.{fm_of}
-use types.ByLocal.{get_in, lands_last}
-use types.Kit.{await, given, later, learn, use3}
-use types.Run.{align_word, and_then, no_more, size_word}
 use types.ByLocal.{is as equals}
 
 module _ (E : El) where

@@ -1,66 +1,22 @@
 -- `get` hands on the `&` to one value that a `&` to the block shows.
-use Prim.Native.Nat.{◌*◌, ◌+◌, ◌<◌, ◌^◌, ℕ}
+use Rattle.chain_arena.proofs.Prelude.{ !, Array, Clauses, El, Ended, Env, Fn, Fun, Goes-dropped, Lft, Logic, Meets, Memory, P, R, RattleType, RefOf, Routine, SProp, Stays, Tables, Ura, Val, WpFn, WpFn-mono, addr, after, alloc_all, args, at_ret, bin, blocks, closing, done, drop, each_shared, ends_at, ent, enter, entered, env, exec, fact, feq_i, feq_l, fhide, first, fjoin, fld, flft, flt_l, frame, free_all, fsplit, fsplit3, fst∗, ftrue, get, get_or, hd, heard, hidden_shr, id⊢, in_a_block, inst_fn, join, keep, lent_at, lent_out, load, look, look_at, mem, move, never, nothing, of_opd, one_below, owns, pass_all, place, place_is, plain, qed, raw, returns, rewrite, says, sem, sets, sets_last, shared_of, size_lit, slice_get-get_or, snd∗, split, stay_dropped, stop, suffices, sz, tables, through, times_below, triple_of, types_at, use1, usize, via, vint, vptr, w64, walk_Meets, walk_of, wider, yes, ‵, ◌$◌, ◌*◌, ◌++◌, ◌<◌, ◌^◌, ◌∵◌, ◌⊑◌, ◌⊛◌}
+use Prim.Native.Nat.{◌+◌, ℕ}
 use Rattle.chain_arena.proofs.Opened.{Held, Mr, count}
 use Rattle.chain_arena.proofs.memory.Memory.get.Code as code
 use Rattle.chain_arena.proofs.memory.Memory.get.Statement as stated
 use Rattle.chain_arena.specs.contracts.memory.Memory.get as F
 use Rattle.chain_arena.specs.contracts.memory.Memory.get.Key as key
-use Rattle.core.proofs.ptr.Rows.{one_below, times_below}
-use Rattle.std_alloc.proofs.VecSteps.El.{El, R, args, sz, wider}
-use Rattle.std_alloc.proofs.VecSteps.Shapes.{after}
-use base.Fml.{flft, ftrue}
-use base.Logic.{SProp, ent, id⊢}
-use contract.BorrowLft.{◌⊑◌}
-use contract.Monad.{Fun, fact}
-use contract.Running.{tables, tables_of}
-use denote.Array.{Array}
-use denote.Builtin.{usize}
-use denote.Exit.{yes}
-use denote.RattleType.{owns}
-use denote.Signature.{plain, types_at}
-use denote.Steps.{heard, nothing}
-use denote.Triple.Clauses.{Clauses, Ended, closing}
-use denote.Triple.Spec.{Meets, triple_of}
-use denote.Triple.Table.{entered}
-use denote.Triple.Walked.{Goes-dropped, Stays, ends_at, stay_dropped, walk_Meets, walk_of}
+use contract.Running.{tables_of}
 use lib.ListN.{length}
-use mathlib.Core.List.{List, [], ◌++◌, ◌∷◌}
+use mathlib.Core.List.{List, [], ◌∷◌}
 use mathlib.Core.Path.{refl, subst, sym}
-use mir.MapTy.{inst_fn}
-use mir.Syntax.{Fn, w64}
-use mir.Val.{Val, vint, vptr}
 use native.Mathlib.Omega.{arith}
-use prog.Memory.{Memory}
-use prog.Routine.{Routine}
-use prog.Wp.{Env, Tables, WpFn}
-use seplogic.Ra.Ura.{Ura}
-use sound.WpLaws.{WpFn-mono}
-use types.ByLocal.{alloc_all, env, free_all, get, look_at, pass_all, sets, through}
-use types.Kit.{ !, at_ret, done, drop, feq_i, feq_l, fjoin, flt_l, frame, fsplit, fsplit3, join, keep, move, qed, raw, rewrite, split, suffices, use1, ‵, ◌$◌, ◌∵◌, ◌⊛◌}
-use types.Logic.{Logic}
-use types.Run.{bin, blocks, enter, exec, first, fld, load, of_opd, returns, size_lit, stop}
 use Prim.Native.Nat.{suc, zero}
 use Rattle.chain_arena.proofs.Opened.{Words}
 use Rattle.chain_arena.specs.contracts.memory.Memory as C
-use Rattle.core.proofs.slice.Lists.{hd}
 use Rattle.core.proofs.slots.Lent.{pointer_in, pointer_out}
 use Rattle.core.specs.contracts.marker.PhantomData as Ph
-use Rattle.std.proofs.lemmas.Option.{slice_get-get_or}
-use Rattle.std_alloc.proofs.VecSteps.El.{P}
-use base.Fml.{Lft, fhide}
-use base.Logic.{never, fst∗, snd∗, via}
-use denote.Builtin.{RefOf}
-use denote.Index.{place, place_is}
-use denote.Memory.{each_shared, hidden_shr, mem, shared_of}
 use denote.Opens.{hide, unhide}
-use denote.RattleType.{RattleType}
-use denote.RawPtr.{in_a_block}
-use denote.Struct.Lending.{lent_at, lent_out}
-use denote.Triple.Walked.{says}
-use lib.ListN.{get_or}
-use types.Logic.{sem}
-use types.Run.{addr, look}
-use types.ByLocal.{sets_last}
 
 module _ (R : RattleType) {M : Type 1} {𝓤 : Ura M} (𝓛 : Logic 𝓤) (κ : Lft) (b : ℕ) where
   abbrev bytes : ℕ

@@ -1,70 +1,23 @@
 -- `get_mut` lends one value. All else of the block waits until it comes back.
-use Prim.Native.Nat.{◌*◌, ◌+◌, ◌-◌, ◌<◌, ◌^◌, ℕ}
+use Rattle.chain_arena.proofs.Prelude.{ !, Array, Clauses, El, Ended, Env, Fml, Fn, Fun, GName, Goes-dropped, Goes-spent_ref, Logic, Meets, Memory, R, RefMutOf, Routine, SProp, Stays, Tables, Ura, Val, WpFn, WpFn-mono, addr, after, alloc_all, args, at_ret, await, bin, block_ptr, blocks, cell_at, closing, done, drop, el_x, elτ, ends_at, ent, enter, entered, env, exec, fact, feq_l, first, fjoin, fld, flft, flt_l, fpack, frame, free_all, froom, fsep, fsplit, fsplit3, ftrue, full_share, get, get_or, given, group, hd, heard, id⊢, inst_fn, join, keep, later, learn, load, look_at, look_in, mem, move, named, no, nothing, of_opd, one_below, others, owns, part_at, pass_all, pick, plain, put_in, qed, raw, returns, rewrite, says, sem, sep, sets, sets_last, shares, size_lit, slice_get-get_or, some, split, split3, stay_dropped, stop, sub, suffices, sz, tables, take_out, through, times_below, token, triple_of, ty_array, types_at, use1, use2, usize, vint, vptr, w64, walk_Meets, walk_of, whole, wider, yes, ‵, ◌$◌, ◌*◌, ◌++◌, ◌-◌, ◌<◌, ◌^◌, ◌∵◌, ◌⊑◌, ◌⊛◌}
+use Prim.Native.Nat.{◌+◌, ℕ}
 use Rattle.chain_arena.proofs.Opened.{Held, Mr, count, opened}
 use Rattle.chain_arena.proofs.memory.Memory.get_mut.Code as code
 use Rattle.chain_arena.proofs.memory.Memory.get_mut.Statement as stated
 use Rattle.chain_arena.specs.contracts.memory.Memory.get_mut as F
 use Rattle.chain_arena.specs.contracts.memory.Memory.get_mut.Key as key
-use Rattle.core.proofs.ptr.Rows.{one_below, times_below}
-use Rattle.std_alloc.proofs.VecSteps.El.{El, R, args, elτ, sz, wider}
-use Rattle.std_alloc.proofs.VecSteps.Shapes.{after}
-use base.Fml.{flft, froom, ftrue}
-use base.Fraction.{full_share}
-use base.Logic.{SProp, ent, id⊢}
-use contract.BorrowLft.{◌⊑◌}
-use contract.Monad.{Fun, fact}
-use contract.Running.{tables, tables_of}
-use denote.Array.{Array}
-use denote.Builtin.{usize}
-use denote.Exit.{no, yes}
-use denote.Memory.{part_at}
-use denote.RattleType.{owns}
-use denote.Signature.{plain, types_at}
-use denote.Steps.{heard, nothing}
-use denote.Triple.Clauses.{Clauses, Ended, closing}
-use denote.Triple.Spec.{Meets, triple_of}
-use denote.Triple.Table.{entered}
-use denote.Triple.Walked.{Goes-dropped, Stays, ends_at, stay_dropped, walk_Meets, walk_of}
+use contract.Running.{tables_of}
 use lib.ListN.{length}
-use mathlib.Core.List.{List, [], ◌++◌, ◌∷◌}
+use mathlib.Core.List.{List, [], ◌∷◌}
 use mathlib.Core.Path.{refl, subst, sym, ◌≡◌}
-use mir.MapTy.{inst_fn}
-use mir.Syntax.{Fn, ty_array, w64}
-use mir.Val.{Val, vint, vptr}
 use native.Mathlib.Omega.{arith}
-use prog.Memory.{Memory}
-use prog.Routine.{Routine}
-use prog.Wp.{Env, Tables, WpFn}
-use seplogic.Ra.Ura.{Ura}
-use sound.WpLaws.{WpFn-mono}
-use types.ByLocal.{alloc_all, env, free_all, get, look_at, pass_all, sets, through}
-use types.Kit.{ !, at_ret, done, drop, feq_l, fjoin, flt_l, frame, fsplit, fsplit3, join, keep, move, qed, raw, rewrite, split, suffices, use1, use2, ‵, ◌$◌, ◌∵◌, ◌⊛◌}
-use types.Logic.{Logic}
-use types.Part.{look_in, sub, whole}
-use types.Run.{bin, blocks, enter, exec, first, fld, load, of_opd, returns, size_lit, stop}
 use Rattle.chain_arena.proofs.Opened.{made, word}
 use Rattle.chain_arena.specs.MemoryLends.{with_written_value}
-use Rattle.core.proofs.alloc.Calls.{token}
-use Rattle.core.proofs.slice.Lists.{hd}
-use Rattle.std.proofs.lemmas.Option.{slice_get-get_or}
-use Rattle.std_alloc.proofs.VecSteps.El.{el_x}
-use Rattle.std_alloc.proofs.VecSteps.Rows.{put_in, take_out}
-use base.Fml.{Fml, GName, fsep}
-use base.Logic.{sep}
-use denote.Builtin.{RefMutOf}
 use denote.Follow.{follows, lends_Part}
-use denote.Index.{others}
-use denote.Memory.{cell_at, mem, part_of, shares}
-use denote.RawPtr.{block_ptr}
+use denote.Memory.{part_of}
 use denote.Ref.{MutRef}
-use denote.Triple.Walked.{Goes-spent_ref, says}
-use lib.ListN.{get_or, length-set, set}
+use lib.ListN.{length-set, set}
 use mir.Raw.{raw as bare}
-use mir.Syntax.{named}
-use types.Kit.{await, fpack, given, group, later, learn, pick, some, split3}
-use types.Logic.{sem}
-use types.Run.{addr}
-use types.ByLocal.{sets_last}
 
 module _ (E : El) {M : Type 1} {𝓤 : Ura M} (𝓛 : Logic 𝓤) (rb ro b o : ℕ) (m : Held E) (i : ℕ) where
   abbrev Rest : Fml

@@ -5,68 +5,19 @@ use Rattle.chain_arena.proofs.memory.Memory.grow.Code as code
 use Rattle.chain_arena.proofs.memory.Memory.grow.Statement as stated
 use Rattle.chain_arena.specs.contracts.memory.Memory.grow as F
 use Rattle.chain_arena.specs.contracts.memory.Memory.grow.Key as key
-use Rattle.std_alloc.proofs.VecSteps.El.{El, R, args}
-use Rattle.std_alloc.proofs.VecSteps.Shapes.{after}
-use base.Fml.{flft, ftrue}
-use base.Logic.{SProp, ent, id⊢}
-use contract.BorrowLft.{◌⊑◌}
-use contract.Monad.{Fun, fact}
-use contract.Running.{tables, tables_of}
-use denote.Builtin.{usize}
-use denote.Exit.{yes}
-use denote.RattleType.{owns}
-use denote.Signature.{plain, types_at}
-use denote.Steps.{heard, nothing}
-use denote.Triple.Clauses.{Clauses, Ended, closing}
-use denote.Triple.Spec.{Meets, triple_of}
-use denote.Triple.Table.{entered}
-use denote.Triple.Walked.{Goes-dropped, Goes-ref, Stays, ends_at, stay_dropped, stay_ref, walk_Meets, walk_of}
+use Rattle.chain_arena.proofs.Prelude.{ !, Answer, Answer-typed, Body, Bool, Clauses, El, Ended, Env, FitsBlock, Flagged, Fn, Fun, Goes-dropped, Goes-ref, Grows, Incl-trans, Logic, Meets, Memory, P, R, RefOf, Resizes, Resizes-gives, Resizes-goes, Routine, SProp, Stays, T, Tables, Triple, Ura, Val, WT, Wp, WpFn, WpFn-mono, after, after_seq, alloc_all, and_then, any_q, args, arm_body, assigns, at_resizes, at_ret, at_return, await, block_ptr, block_with_items, blocks, by, calls_at_last, closing, done, ends_at, ent, enter, entered, env, ex, exec, fact, false_lit, fbor, feq_i, feq_l, first, fjoin, fjoin3, flagged, fld, flft, flt_l, fm_of, fobs, frame, free_all, front, fsplit, fsplit3, ftrue, get, get_in, get_tag, has_ty, heard, id⊢, if◌then◌else◌, in_variant, inst_fn, join, keep, lands_last, later, left_by, load, look_at, look_in, mem, move, no_more, nothing, of_opd, owns, pass_all, plain, qed, raw, resize_key, returns, rewrite, sets, sets_last, split, split3, stay_dropped, stay_ref, stop, store_in, sub, suffices, switches_on, tables, through, token, triple_of, true_lit, types_at, use1, use2, usize, vbool, vint, vptr, vrt, w64, walk_Meets, walk_of, whole, yes, ‵, ⋆, ◌$◌, ◌++◌, ◌∵◌, ◌⊑◌, ◌⊛◌}
+use contract.Running.{tables_of}
 use lib.ListN.{length}
-use mathlib.Core.List.{List, [], ◌++◌, ◌∷◌}
+use mathlib.Core.List.{List, [], ◌∷◌}
 use mathlib.Core.Path.{refl, subst, sym, ◌≡◌}
-use mir.MapTy.{inst_fn}
-use mir.Syntax.{Fn, w64}
-use mir.Val.{Val, vint, vptr}
 use native.Mathlib.Omega.{arith}
-use prog.Memory.{Memory}
-use prog.Routine.{Routine}
-use prog.Wp.{Env, Tables, WpFn}
-use seplogic.Ra.Ura.{Ura}
-use sound.WpLaws.{WpFn-mono}
-use types.ByLocal.{alloc_all, env, free_all, get, look_at, pass_all, sets, through}
-use types.Kit.{ !, at_ret, done, feq_i, feq_l, fjoin, fjoin3, flt_l, frame, fsplit, fsplit3, join, keep, move, qed, raw, rewrite, split, suffices, use1, use2, ‵, ◌$◌, ◌∵◌, ◌⊛◌}
-use types.Logic.{Logic}
-use types.Part.{look_in, sub, whole}
-use types.Run.{blocks, enter, exec, first, fld, load, of_opd, returns, stop}
 use Rattle.chain_arena.proofs.Opened.{as_block, of_block}
-use Rattle.core.proofs.alloc.Calls.{Answer, Answer-typed, token}
-use Rattle.core.proofs.alloc.Resizes.{Flagged, Grows, Resizes, Resizes-gives, Resizes-goes, at_resizes, flagged, left_by, resize_key}
-use Rattle.core.specs.Allocator.{FitsBlock, block_with_items}
-use Rattle.std.specs.Prelude.{if◌then◌else◌}
-use Rattle.std_alloc.proofs.VecSteps.El.{P}
 use Rattle.std_alloc.proofs.VecSteps.Facts.{Says-All, and_fact, last_fact}
-use Rattle.std_alloc.proofs.VecSteps.Shapes.{arm_body, front}
-use base.Fml.{Incl-trans, fbor, fobs}
-use denote.Memory.{mem}
 use types.SemTy.{Body as Borrowed}
-use base.Logic.{ex}
-use denote.Builtin.{RefOf}
 use denote.Param.{layout}
-use denote.RawPtr.{block_ptr}
-use denote.Triple.Call.{calls_at_last}
-use denote.Triple.Statement.{Triple}
-use lib.Dec.{T}
-use mathlib.Core.Bool.{Bool, false, true}
-use mir.Syntax.{Body}
-use mir.Val.{WT, has_ty, vbool}
-use prog.Wp.{Wp, after_seq, at_return}
-use sound.WpLaws.{fm_of}
-use types.ByLocal.{get_in, get_tag, lands_last, sets_last}
+use mathlib.Core.Bool.{false, true}
 use types.ByLocal.{is as equals}
-use types.Kit.{Post as After, ⋆, any_q, await, by, later, split3}
-use types.Match.{in_variant, vrt}
-use types.Part.{store_in}
-use types.Run.{and_then, assigns, false_lit, no_more, switches_on, true_lit}
+use types.Kit.{Post as After}
 
 module _ (E : El) where
   abbrev here : Fn

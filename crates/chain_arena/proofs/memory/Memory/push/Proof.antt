@@ -1,5 +1,6 @@
 -- `push` writes into the first place of the room.
-use Prim.Native.Nat.{◌*◌, ◌+◌, ◌-◌, ◌<◌, ◌^◌, ℕ}
+use Rattle.chain_arena.proofs.Prelude.{ !, Array, Clauses, El, Ended, Env, Fn, Fun, Goes-dropped, Goes-ref, Logic, Meets, Memory, R, Routine, SProp, Stays, Tables, Ura, Val, WpFn, WpFn-mono, after, alloc_all, args, assigns_last, at_ret, bin, blocks, closing, done, drop, el_in, el_lawful, elτ, ends_at, ent, enter, entered, env, exec, fact, feq_i, feq_l, first, fjoin, fjoin3, fld, flft, flt_l, frame, free_all, froom, fsplit, fsplit3, ftrue, full_share, get, heard, id⊢, init, inst_fn, join, keep, load, look_at, look_in, move, no, nothing, of_opd, one_below, owns, part_at, pass_all, peeks, plain, qed, raw, returns, rewrite, sets, size_lit, snoc, spare, split, stay_dropped, stay_ref, stop, sub, suffices, sz, tables, through, times_below, triple_of, ty_array, types_at, unit_lit, use1, use2, usize, vint, vptr, vunit, w64, walk_Meets, walk_of, whole, wider, yes, ‵, ◌$◌, ◌*◌, ◌++◌, ◌-◌, ◌<◌, ◌^◌, ◌∵◌, ◌⊑◌, ◌⊛◌}
+use Prim.Native.Nat.{◌+◌, ℕ}
 use Rattle.chain_arena.proofs.Opened.{Held, Mr, closed, opened}
 use Rattle.chain_arena.proofs.memory.Memory.push.Code as code
 use Rattle.chain_arena.proofs.memory.Memory.push.Statement as stated
@@ -7,45 +8,12 @@ use Rattle.chain_arena.specs.contracts.memory.Memory.push as F
 use Rattle.chain_arena.specs.contracts.memory.Memory.push.Key as key
 use Rattle.core.proofs.mem.Facts.{says_two}
 use Rattle.core.proofs.mem.Param.{one}
-use Rattle.core.proofs.ptr.Rows.{one_below, times_below}
-use Rattle.std_alloc.proofs.VecSteps.El.{El, R, args, el_lawful, elτ, sz, wider}
-use Rattle.std_alloc.proofs.VecSteps.Rows.{el_in, snoc, spare}
-use Rattle.std_alloc.proofs.VecSteps.Shapes.{after}
-use base.Fml.{flft, froom, ftrue}
-use base.Fraction.{full_share}
-use base.Logic.{SProp, ent, id⊢}
-use contract.BorrowLft.{◌⊑◌}
-use contract.Monad.{Fun, fact}
-use contract.Running.{tables, tables_of}
-use denote.Array.{Array}
-use denote.Builtin.{usize}
-use denote.Exit.{no, yes}
+use contract.Running.{tables_of}
 use denote.Laws.{Is, shows}
-use denote.Memory.{part_at}
-use denote.RattleType.{owns}
-use denote.Signature.{plain, types_at}
-use denote.Steps.{heard, nothing, peeks}
-use denote.Triple.Clauses.{Clauses, Ended, closing}
-use denote.Triple.Spec.{Meets, triple_of}
-use denote.Triple.Table.{entered}
-use denote.Triple.Walked.{Goes-dropped, Goes-ref, Stays, ends_at, stay_dropped, stay_ref, walk_Meets, walk_of}
 use lib.ListN.{length, length-append}
-use mathlib.Core.List.{List, [], ◌++◌, ◌∷◌}
+use mathlib.Core.List.{List, [], ◌∷◌}
 use mathlib.Core.Path.{ap, refl, subst, sym, ◌∙◌, ◌≡◌}
-use mir.MapTy.{inst_fn}
-use mir.Syntax.{Fn, ty_array, w64}
-use mir.Val.{Val, vint, vptr, vunit}
 use native.Mathlib.Omega.{arith}
-use prog.Memory.{Memory}
-use prog.Routine.{Routine}
-use prog.Wp.{Env, Tables, WpFn}
-use seplogic.Ra.Ura.{Ura}
-use sound.WpLaws.{WpFn-mono}
-use types.ByLocal.{alloc_all, env, free_all, get, look_at, pass_all, sets, through}
-use types.Kit.{ !, at_ret, done, drop, feq_i, feq_l, fjoin, fjoin3, flt_l, frame, fsplit, fsplit3, join, keep, move, qed, raw, rewrite, split, suffices, use1, use2, ‵, ◌$◌, ◌∵◌, ◌⊛◌}
-use types.Logic.{Logic}
-use types.Part.{look_in, sub, whole}
-use types.Run.{assigns_last, bin, blocks, enter, exec, first, fld, init, load, of_opd, returns, size_lit, stop, unit_lit}
 
 module _ (E : El) where
   abbrev here : Fn

@@ -1,12 +1,7 @@
 use Rattle.command_rules.proofs.FootprintBits.{footprints_more}
 use Rattle.command_rules.proofs.RosterReads.{commands_at}
 use Rattle.command_rules.proofs.indexed_rosters.IndexedRoster.open.Goals as goal
-use Rattle.command_rules.specs.Footprints.{IsFootprint}
-use Rattle.command_rules.specs.Rosters.{runs_of}
-use Rattle.home_types.specs.declared.commands.Command.{Command}
-use Rattle.std.proofs.Common.{ap, length, subst, suc, sym, ◌∙◌, ◌≤◌}
-use Rattle.std.specs.Option.{option_copied}
-use Rattle.std.specs.Prelude.{List, slice_get}
+use Rattle.command_rules.proofs.Prelude.{Command, IsFootprint, List, ap, length, option_copied, runs_of, slice_get, subst, suc, sym, ◌∙◌, ◌≤◌}
 
 pub footprint_of-requires-clause-few : goal.footprint_of-requires-clause-few
 footprint_of-requires-clause-few c =

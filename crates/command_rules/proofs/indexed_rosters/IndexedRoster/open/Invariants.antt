@@ -1,7 +1,5 @@
 use Rattle.command_rules.proofs.indexed_rosters.IndexedRoster.open.Given as goal
-use Rattle.command_rules.specs.Footprints.{AreFootprints}
-use Rattle.command_rules.specs.Rosters.{runs_of}
-use Rattle.std.specs.Prelude.{length, ◌≡◌}
+use Rattle.command_rules.proofs.Prelude.{AreFootprints, length, runs_of, ◌≡◌}
 
 -- the runs up to here have their footprints
 abbrev pub invariant-runs : goal.invariant-runs

@@ -1,6 +1,6 @@
 use Rattle.command_rules.proofs.Sharing.{meets_shares}
 use Rattle.command_rules.proofs.indexed_rosters.IndexedRoster.shares.Goals as goal
-use Rattle.command_rules.specs.Rosters.{commands_of, runs_of}
+use Rattle.command_rules.proofs.Prelude.{commands_of, runs_of}
 
 pub returns : goal.returns
 returns c =

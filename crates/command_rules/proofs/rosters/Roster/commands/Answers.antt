@@ -1,7 +1,6 @@
 use Rattle.command_rules.proofs.RosterReads.{commands_of-run}
 use Rattle.command_rules.proofs.rosters.Roster.commands.Goals as goal
-use Rattle.std.proofs.Common.{ap, sym, ◌∙◌}
-use Rattle.std.specs.Option.{option_copied}
+use Rattle.command_rules.proofs.Prelude.{ap, option_copied, sym, ◌∙◌}
 
 pub returns : goal.returns
 returns c =

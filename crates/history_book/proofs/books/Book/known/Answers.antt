@@ -1,11 +1,6 @@
 use Rattle.history_book.proofs.KnownRuns.{has_place}
 use Rattle.history_book.proofs.books.Book.known.Goals as goal
-use Rattle.home_types.specs.Listed.{Listed}
-use Rattle.history_book.specs.declared.entries.Kept.{Kept}
-use Rattle.history_book.specs.declared.progress.RunProgress.{RunProgress}
-use Rattle.std.proofs.Common.{ap, arith, length, subst, sym, ◌+◌, ◌<◌, ◌∙◌, ◌≡◌}
-use Rattle.std.proofs.lemmas.Grind.{common_steps}
-use Rattle.std.specs.Prelude.{List, nat_lt, true}
+use Rattle.history_book.proofs.Prelude.{Kept, List, Listed, RunProgress, ap, arith, common_steps, length, nat_lt, subst, sym, true, ◌+◌, ◌<◌, ◌∙◌, ◌≡◌}
 
 pub returns-clause-there : goal.returns-clause-there
 returns-clause-there c = λ low some.

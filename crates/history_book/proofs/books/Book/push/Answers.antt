@@ -1,9 +1,6 @@
 use Rattle.history_book.proofs.KnownRuns.{answer_fits, comes_back, length_noted, noted_along, place_before, stays_along}
 use Rattle.history_book.proofs.books.Book.push.Goals as goal
-use Rattle.history_book.specs.Progress.{noted, nothing_done}
-use Rattle.history_book.specs.declared.progress.RunProgress.{RunProgress}
-use Rattle.std.proofs.Common.{[], ap, arith, length, rules, subst, sym, ◌∙◌, ◌+◌, ◌-◌, ◌<◌, ◌^◌, ◌++◌, ◌∷◌, ◌≡◌}
-use Rattle.std.specs.Prelude.{List, slice_index_or}
+use Rattle.history_book.proofs.Prelude.{List, RunProgress, [], ap, arith, length, noted, nothing_done, rules, slice_index_or, subst, sym, ◌++◌, ◌+◌, ◌-◌, ◌<◌, ◌^◌, ◌∙◌, ◌∷◌, ◌≡◌}
 
 pub note-requires : goal.note-requires
 note-requires c =

@@ -1,6 +1,6 @@
 use Rattle.history_book.proofs.KnownRuns.{same_along}
 use Rattle.history_book.proofs.books.Book.reserve.Goals as goal
-use Rattle.std.proofs.Common.{refl, rules, ◌≡◌}
+use Rattle.history_book.proofs.Prelude.{refl, rules, ◌≡◌}
 
 pub invariant_of-self : goal.invariant_of-self
 invariant_of-self c =

@@ -1,11 +1,7 @@
 use Rattle.history_book.proofs.HistoryReads.{place_run, unended}
 use Rattle.history_book.proofs.Searching.{here_number, no_number, past_number}
 use Rattle.history_book.proofs.read_histories.ReadHistory.first_unended.Goals as goal
-use Rattle.command_rules.specs.Rosters.{is_run}
-use Rattle.history_book.specs.ReadHistories.{read_in}
-use Rattle.history_book.specs.declared.progress.RunProgress.{RunProgress}
-use Rattle.std.proofs.Common.{ap, arith, length, not, subst, sym, ◌∙◌}
-use Rattle.std.specs.Prelude.{IsTrue, Some, false, is_none, suc, true, ℕ, ◌+◌, ◌<◌, ◌≡◌, ◌≤◌}
+use Rattle.history_book.proofs.Prelude.{IsTrue, RunProgress, Some, ap, arith, false, is_none, is_run, length, not, read_in, subst, suc, sym, true, ℕ, ◌+◌, ◌<◌, ◌∙◌, ◌≡◌, ◌≤◌}
 
 pub overflow_cast-r : goal.overflow_cast-r
 overflow_cast-r c = omega (arith, c.runs-test.true, c.run_count-at-end.ensures.few)

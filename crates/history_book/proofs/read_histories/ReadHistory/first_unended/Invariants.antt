@@ -1,7 +1,6 @@
 use Rattle.history_book.proofs.Searching.{numbers}
 use Rattle.history_book.proofs.read_histories.ReadHistory.first_unended.Given as goal
-use Rattle.history_book.specs.ReadHistories.{read_in}
-use Rattle.std.specs.Prelude.{is_none, length, ◌+◌, ◌-◌, ◌≡◌}
+use Rattle.history_book.proofs.Prelude.{is_none, length, read_in, ◌+◌, ◌-◌, ◌≡◌}
 
 -- each run up to here has ended
 abbrev pub invariant-runs : goal.invariant-runs

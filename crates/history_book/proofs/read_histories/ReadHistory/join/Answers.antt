@@ -1,10 +1,6 @@
 use Rattle.history_book.proofs.HistoryReads.{join_read}
 use Rattle.history_book.proofs.read_histories.ReadHistory.join.Goals as goal
-use Rattle.history_book.specs.ReadHistories.{HistoryState}
-use Rattle.std.proofs.Common.{ap, arith, rules}
-use Rattle.std.specs.Prelude.{length, ◌<◌, ◌≡◌, ◌+◌}
-use Rattle.command_rules.specs.Rosters.{plain_run, runs_of}
-use Rattle.home_types.specs.Limits.{most_runs}
+use Rattle.history_book.proofs.Prelude.{HistoryState, ap, arith, length, most_runs, plain_run, rules, runs_of, ◌+◌, ◌<◌, ◌≡◌}
 
 pub invariant_of-self-2 : goal.invariant_of-self-2
 invariant_of-self-2 c =

@@ -1,9 +1,6 @@
-use Rattle.home_types.specs.Kinds.{kind_at}
+use Rattle.history_book.proofs.Prelude.{ap, kind_at, unwrap_or, unwrap_or-slice_get, ◌∙◌}
 use Rattle.home_types.specs.declared.kinds.Kind.TheVariants.{States}
 use Rattle.history_book.proofs.read_histories.ReadHistory.kind.Goals as goal
-use Rattle.std.proofs.Common.{ap, ◌∙◌}
-use Rattle.std.proofs.lemmas.Option.{unwrap_or-slice_get}
-use Rattle.std.specs.Prelude.{unwrap_or}
 
 pub returns-in-None : goal.returns-in-None
 returns-in-None c =

@@ -1,8 +1,6 @@
 use Rattle.history_book.proofs.HistoryReads.{next_low}
 use Rattle.history_book.proofs.read_histories.ReadHistory.next.Goals as goal
-use Rattle.history_book.specs.ReadHistories.{read_in}
-use Rattle.history_book.specs.Readings.{next_of}
-use Rattle.std.proofs.Common.{ap, arith}
+use Rattle.history_book.proofs.Prelude.{ap, arith, next_of, read_in}
 
 pub overflow_cast-result : goal.overflow_cast-result
 overflow_cast-result c =

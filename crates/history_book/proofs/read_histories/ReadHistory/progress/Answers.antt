@@ -1,11 +1,6 @@
-use Rattle.command_rules.specs.Rosters.{is_run}
+use Rattle.history_book.proofs.Prelude.{IfSome, ap, is_run, option_copied, progress_in, progress_of, read_in, subst, ◌∙◌, ◌≡◌}
 use Rattle.history_book.proofs.HistoryReads.{known_is, run_low}
 use Rattle.history_book.proofs.read_histories.ReadHistory.progress.Goals as goal
-use Rattle.history_book.specs.Progress.{progress_in, progress_of}
-use Rattle.history_book.specs.ReadHistories.{read_in}
-use Rattle.std.proofs.Common.{ap, subst, ◌∙◌}
-use Rattle.std.specs.Option.{option_copied}
-use Rattle.std.specs.Prelude.{IfSome, ◌≡◌}
 
 pub unwrap-requires : goal.unwrap-requires
 unwrap-requires c =

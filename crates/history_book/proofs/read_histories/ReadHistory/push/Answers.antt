@@ -1,13 +1,6 @@
-use Rattle.command_rules.specs.Rosters.{is_run}
+use Rattle.history_book.proofs.Prelude.{Command, Did, HistoryState, [], ap, ap₂, arith, common_steps, is_run, may_follow, read_in, register_after, sym, ◌++◌, ◌∙◌, ◌∷◌, ◌≡◌}
 use Rattle.history_book.proofs.HistoryReads.{answer_read, other_read, register_place}
 use Rattle.history_book.proofs.read_histories.ReadHistory.push.Goals as goal
-use Rattle.history_book.specs.ReadHistories.{HistoryState, read_in}
-use Rattle.history_book.specs.WellFormed.{may_follow}
-use Rattle.history_book.specs.declared.entries.Entry.TheVariants.{Did}
-use Rattle.home_types.specs.Commands.{register_after}
-use Rattle.home_types.specs.declared.commands.Command.{Command}
-use Rattle.std.proofs.lemmas.Grind.{common_steps}
-use Rattle.std.proofs.Common.{[], ap, ap₂, arith, sym, ◌∙◌, ◌++◌, ◌∷◌, ◌≡◌}
 
 pub invariant_of-self : goal.invariant_of-self
 invariant_of-self c =

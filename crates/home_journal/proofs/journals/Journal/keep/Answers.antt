@@ -1,14 +1,7 @@
 use Rattle.home_journal.proofs.Keeping.{IsNextState, keeps_first, keeps_next, knows_next}
 use Rattle.home_journal.proofs.Moments.{weaker}
 use Rattle.home_journal.proofs.journals.Journal.keep.Goals as goal
-use Rattle.home_journal.specs.Disks.{LeavesOnly}
-use Rattle.home_journal.specs.Journals.{IsStateOf, JournalState, KeepsFirst, KnowsKept, LeavesFirst, last_kept, states_kept}
-use Rattle.home_journal.specs.KeptStates.{kept_states}
-use Rattle.home_journal.specs.SlotFiles.{IsBeforeOrAfter}
-use Rattle.home_journal.specs.Slots.{body_size, open_slots, state_bytes, with_slot}
-use Rattle.home_types.specs.declared.worlds.Stand.{Stand}
-use Rattle.std.proofs.Common.{All, List, [], ap, arith, length, subst, sym, true, ◌*◌, ◌++◌, ◌+◌, ◌<◌, ◌^◌, ◌≡◌, ◌∙◌, ◌∷◌}
-use Rattle.std.specs.Prelude.{Ok}
+use Rattle.home_journal.proofs.Prelude.{All, IsBeforeOrAfter, IsStateOf, JournalState, KeepsFirst, KnowsKept, LeavesFirst, LeavesOnly, List, Ok, Stand, [], ap, arith, body_size, kept_states, last_kept, length, open_slots, state_bytes, states_kept, subst, sym, true, with_slot, ◌*◌, ◌++◌, ◌+◌, ◌<◌, ◌^◌, ◌∙◌, ◌∷◌, ◌≡◌}
 
 pub invariant_of-result : goal.invariant_of-result
 invariant_of-result g c =

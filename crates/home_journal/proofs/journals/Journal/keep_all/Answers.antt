@@ -1,10 +1,7 @@
 use Rattle.home_journal.proofs.Firsts.{first_of_all, home_at, one_more}
 use Rattle.home_journal.proofs.Moments.{then_on, weaker}
 use Rattle.home_journal.proofs.journals.Journal.keep_all.Goals as goal
-use Rattle.home_journal.specs.Journals.{KeepsFirst}
-use Rattle.home_journal.specs.KeptStates.{kept_states}
-use Rattle.std.proofs.Common.{ap, arith, length, map, rules, sym, take, ◌++◌, ◌<◌, ◌∙◌}
-use Rattle.std.specs.Prelude.{Ok}
+use Rattle.home_journal.proofs.Prelude.{KeepsFirst, Ok, ap, arith, kept_states, length, map, rules, sym, take, ◌++◌, ◌<◌, ◌∙◌}
 
 pub returns-in-Err-clause-any_moment : goal.returns-in-Err-clause-any_moment
 returns-in-Err-clause-any_moment g c told homes kept =

@@ -1,9 +1,5 @@
 use Rattle.home_journal.proofs.journals.Journal.keep_all.Given as goal
-use Rattle.home_journal.specs.Disks.{LeavesOnly}
-use Rattle.home_journal.specs.Journals.{KeepsFirst, states_kept}
-use Rattle.home_types.specs.declared.worlds.Stand.{Stand}
-use Rattle.std.proofs.Common.{List, map, take, true, ◌++◌, ◌+◌, ◌≡◌, ◌≤◌}
-use Rattle.std.specs.Prelude.{Ok}
+use Rattle.home_journal.proofs.Prelude.{KeepsFirst, LeavesOnly, List, Ok, Stand, map, states_kept, take, true, ◌++◌, ◌+◌, ◌≡◌, ◌≤◌}
 
 abbrev pub invariant-worlds : goal.invariant-worlds
 invariant-worlds g l =

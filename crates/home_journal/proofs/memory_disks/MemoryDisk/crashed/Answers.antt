@@ -1,7 +1,6 @@
 use Rattle.home_journal.proofs.Images.{leaves_either}
 use Rattle.home_journal.proofs.memory_disks.MemoryDisk.crashed.Goals as goal
-use Rattle.home_journal.specs.MemoryDisks.{CrashMayLeave, MemoryState, images_of}
-use Rattle.std.proofs.Common.{subst, sym}
+use Rattle.home_journal.proofs.Prelude.{CrashMayLeave, MemoryState, images_of, subst, sym}
 
 pub returns-clause-image : goal.returns-clause-image
 returns-clause-image c =

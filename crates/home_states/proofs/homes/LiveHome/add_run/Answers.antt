@@ -2,7 +2,7 @@ use Rattle.home_states.proofs.Drafting.{has_added, has_joined, not_ok}
 use Rattle.home_states.proofs.Joining.{joined_or_same}
 use Rattle.home_states.proofs.homes.LiveHome.add_run.Goals as goal
 use Rattle.home_states.proofs.homes.LiveHome.add_run.Goals.{in-Err, in-Ok}
-use Rattle.home_states.specs.contracts.homes.LiveHome.{the_view}
+use Rattle.home_states.proofs.Prelude.{the_view}
 
 pub invariant_of-self-in-InWindow : goal.invariant_of-self-in-InWindow
 invariant_of-self-in-InWindow c =

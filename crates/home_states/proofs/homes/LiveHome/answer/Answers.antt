@@ -1,19 +1,11 @@
 use Rattle.home_states.proofs.Answered.{has_answered}
 use Rattle.home_states.proofs.Drafting.{not_ok}
-use Rattle.handed_devices.specs.declared.devices.HandedDevice.{HandedDevice}
+use Rattle.home_states.proofs.Prelude.{HandedDevice, HasAnswered, IfOk, InWindow, IsCounted, OpenHub, Phase, subst, sym, the_view}
 use Rattle.home_states.proofs.Living.{never_moving}
 use Rattle.home_states.proofs.Numbering.{back_counted_on}
 use Rattle.home_states.proofs.homes.LiveHome.answer.Goals as goal
 use Rattle.home_states.proofs.homes.LiveHome.answer.Goals.{in-Between, in-InWindow+in-Err, in-InWindow+in-Ok}
-use Rattle.home_states.specs.LiveHomes.{IsCounted}
-use Rattle.home_states.specs.Steps.{HasAnswered}
-use Rattle.home_states.specs.contracts.homes.LiveHome.{the_view}
 use Rattle.home_states.specs.declared.homes.LiveHome.TheInside.{Inside}
-use Rattle.home_states.specs.declared.homes.Phase.TheVariants.{InWindow}
-use Rattle.home_states.specs.declared.homes.Phase.{Phase}
-use Rattle.hub_core.specs.OpenHubs.{OpenHub}
-use Rattle.std.proofs.Common.{subst, sym}
-use Rattle.std.specs.Prelude.{IfOk}
 
 pub unreachable-requires : goal.unreachable-requires
 unreachable-requires c = never_moving _ c.self.invariant.live c.in-Moving.is

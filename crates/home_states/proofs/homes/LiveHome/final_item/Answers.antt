@@ -1,11 +1,7 @@
 use Rattle.home_states.proofs.Living.{never_moving}
 use Rattle.home_states.proofs.homes.LiveHome.final_item.Goals as goal
-use Rattle.home_states.specs.LiveHomes.{LiveState}
+use Rattle.home_states.proofs.Prelude.{IfErr, LiveState, Phase, subst, sym, the_view}
 use Rattle.home_states.specs.Queries.{MayNotTellFinal}
-use Rattle.home_states.specs.contracts.homes.LiveHome.{the_view}
-use Rattle.home_states.specs.declared.homes.Phase.{Phase}
-use Rattle.std.proofs.Common.{subst, sym}
-use Rattle.std.specs.Prelude.{IfErr}
 
 pub unreachable-requires : goal.unreachable-requires
 unreachable-requires c = never_moving _ c.self.invariant.live c.in-Moving.is

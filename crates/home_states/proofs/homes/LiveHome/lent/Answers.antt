@@ -1,7 +1,7 @@
 use Rattle.home_states.proofs.Living.{never_moving}
 use Rattle.home_states.proofs.Numbering.{window_of}
 use Rattle.home_states.proofs.homes.LiveHome.lent.Goals as goal
-use Rattle.home_states.specs.contracts.homes.LiveHome.{the_view}
+use Rattle.home_states.proofs.Prelude.{the_view}
 
 pub unreachable-requires : goal.unreachable-requires
 unreachable-requires c = never_moving _ c.self.invariant.live c.in-Moving.is

@@ -1,8 +1,7 @@
 use Rattle.home_states.proofs.Remaking.{made_more, refused_at}
 use Rattle.home_states.proofs.homes.LiveHome.make_again.Goals as goal
-use Rattle.home_states.specs.Rebuilt.{AreRefusedAt}
+use Rattle.home_states.proofs.Prelude.{AreRefusedAt, arith, drop, subst, ◌+◌, ◌/◌, ◌≡◌}
 use Rattle.logged_calls.specs.CallBytes.{calls_from}
-use Rattle.std.proofs.Common.{arith, drop, subst, ◌+◌, ◌/◌, ◌≡◌}
 
 pub calls-preserved : goal.calls-preserved
 calls-preserved c = (

@@ -1,7 +1,7 @@
 use Rattle.home_states.proofs.Remaking.{AreMade}
 use Rattle.home_states.proofs.homes.LiveHome.make_again.Given as goal
 use Rattle.logged_calls.specs.CallBytes.{calls_from}
-use Rattle.std.proofs.Common.{drop, length, ◌-◌, ◌≤◌}
+use Rattle.home_states.proofs.Prelude.{drop, length, ◌-◌, ◌≤◌}
 
 -- the calls before the place were made
 abbrev pub invariant-calls : goal.invariant-calls

@@ -2,7 +2,7 @@ use Rattle.home_states.proofs.InOrder.{none_sent, probes_in_order}
 use Rattle.home_states.proofs.Living.{never_moving}
 use Rattle.home_states.proofs.Numbering.{probe_counted_on, probe_few}
 use Rattle.home_states.proofs.homes.LiveHome.probe.Goals as goal
-use Rattle.home_states.specs.contracts.homes.LiveHome.{the_view}
+use Rattle.home_states.proofs.Prelude.{the_view}
 
 pub unreachable-requires : goal.unreachable-requires
 unreachable-requires c = never_moving _ c.self.invariant.live c.in-Moving.is

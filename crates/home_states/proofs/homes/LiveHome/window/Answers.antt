@@ -1,12 +1,7 @@
 use Rattle.home_states.proofs.Numbering.{opened_counted_on}
 use Rattle.home_states.proofs.homes.LiveHome.window.Goals as goal
-use Rattle.home_states.specs.LiveHomes.{IsCounted, LiveState}
-use Rattle.home_states.specs.contracts.homes.LiveHome.{the_view}
+use Rattle.home_states.proofs.Prelude.{Between, InWindow, IsCounted, LiveState, Option, Phase, false, rules, subst, sym, the_view, ◌≡◌}
 use Rattle.home_states.specs.declared.homes.ClosedWindow.{ClosedWindow}
-use Rattle.home_states.specs.declared.homes.Phase.TheVariants.{Between, InWindow}
-use Rattle.home_states.specs.declared.homes.Phase.{Phase}
-use Rattle.std.proofs.Common.{rules, subst, sym, ◌≡◌}
-use Rattle.std.specs.Prelude.{Option, false}
 
 pub invariant_of-self : goal.invariant_of-self
 invariant_of-self c =

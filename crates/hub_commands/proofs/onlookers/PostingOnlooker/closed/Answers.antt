@@ -1,10 +1,9 @@
 use Rattle.hub_commands.proofs.PublishedDays.{before_fewer, counts_added, counts_are, each_more}
 use Rattle.hub_commands.proofs.onlookers.PostingOnlooker.closed.Goals as goal
-use Rattle.hub_commands.specs.Boards.{counts_each, counts_of}
+use Rattle.hub_commands.proofs.Prelude.{List, [], ap, ap₂, arith, counts_each, counts_of, refl, subst, sym, ◌++◌, ◌+◌, ◌∙◌, ◌∷◌, ◌≤◌}
 use Rattle.status_board.proofs.Cited.{last_more}
 use Rattle.status_board.specs.Publishings.{last_of, nothing}
 use Rattle.status_board.specs.declared.day_counts.Counts.{Counts}
-use Rattle.std.proofs.Common.{ap, ap₂, arith, refl, subst, sym, List, [], ◌+◌, ◌++◌, ◌∙◌, ◌∷◌, ◌≤◌}
 
 pub overflow_cast-committed : goal.overflow_cast-committed
 overflow_cast-committed g c =

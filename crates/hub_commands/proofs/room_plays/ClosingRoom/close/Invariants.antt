@@ -1,6 +1,6 @@
 use Rattle.hub_commands.proofs.RoomSteps.{IsTakingApart}
 use Rattle.hub_commands.proofs.room_plays.ClosingRoom.close.Given as goal
-use Rattle.std.proofs.Common.{length}
+use Rattle.hub_commands.proofs.Prelude.{length}
 
 abbrev pub invariant-rooms : goal.invariant-rooms
 invariant-rooms g l =

@@ -1,11 +1,6 @@
-use Rattle.home_types.specs.HomeStates.{nowhere}
-use Rattle.home_types.specs.declared.worlds.Stand.{Stand}
+use Rattle.hub_core.proofs.Prelude.{HomeIsKept, Some, Stand, false, get_or_from_slice_get, nowhere, rules, slice_get, slice_set, subst, ◌≡◌}
 use Rattle.hub_core.proofs.FoundDevices.{lose_keeps}
 use Rattle.hub_core.proofs.homes.Home.lose.Goals as goal
-use Rattle.hub_core.specs.Homes.{HomeIsKept}
-use Rattle.std.proofs.Common.{rules, subst, ◌≡◌}
-use Rattle.std.proofs.lemmas.Option.{get_or_from_slice_get}
-use Rattle.std.specs.Prelude.{Some, false, slice_get, slice_set}
 
 -- the home that is told that a device is lost is kept
 pub invariant_of-self : goal.invariant_of-self

@@ -1,19 +1,10 @@
-use Rattle.command_rules.specs.Rosters.{plain_run, runs_of}
+use Rattle.hub_core.proofs.Prelude.{HasRoomLeft, HeldTokensAre, HomeIsKept, HubIsKept, IsOpened, None, OpenHub, OrderIsBeside, ap, arith, configuration_of, length, length-map, most_entries, plain_run, replicate, runs_of, setting_for, subst, sym, ◌<◌, ◌∙◌, ◌≤◌}
 use Rattle.command_rules.specs.declared.rosters.Roster.{Roster}
 use Rattle.home_types.specs.Limits.{most_runs}
 use Rattle.hub_core.proofs.calls.HubOpens.{Opens, first_hands, first_kept, first_opened, first_order, first_room, first_scratch, is_first_hub, seen_home, setting_of_indexed}
 use Rattle.hub_core.proofs.calls.HubOrders.{index_fits}
 use Rattle.hub_core.proofs.homes.Home.open_window.Goals as goal
 use Rattle.hub_core.proofs.kept.BlockedMarks.{none_blocked}
-use Rattle.hub_core.specs.Bounds.{most_entries}
-use Rattle.hub_core.specs.Homes.{HomeIsKept, setting_for}
-use Rattle.hub_core.specs.HubCalls.{IsOpened}
-use Rattle.hub_core.specs.HubsKept.{HasRoomLeft, HubIsKept}
-use Rattle.window_devices.specs.Checkouts.{HeldTokensAre}
-use Rattle.hub_core.specs.OrderStates.{OrderIsBeside}
-use Rattle.hub_core.specs.OpenHubs.{OpenHub, configuration_of}
-use Rattle.std.proofs.Common.{None, ap, arith, length, replicate, subst, sym, ◌<◌, ◌∙◌, ◌≤◌}
-use Rattle.std.proofs.lemmas.List.{length-map}
 
 pub room-requires-clause-runs : goal.room-requires-clause-runs
 room-requires-clause-runs g c = index_fits (setting_for c.args.self c.args.roster c.args.mode) c.args.rounds c.args.self.opened c.requires.may

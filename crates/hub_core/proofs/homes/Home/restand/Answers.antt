@@ -1,6 +1,6 @@
 use Rattle.hub_core.proofs.FoundDevices.{restand_keeps}
 use Rattle.hub_core.proofs.homes.Home.restand.Goals as goal
-use Rattle.std.proofs.Common.{rules}
+use Rattle.hub_core.proofs.Prelude.{rules}
 
 -- the home that is told where a device was found is kept
 pub invariant_of-self : goal.invariant_of-self

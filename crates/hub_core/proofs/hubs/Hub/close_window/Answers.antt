@@ -1,8 +1,6 @@
 use Rattle.hub_core.proofs.calls.FinalItems.{legal_begins}
 use Rattle.hub_core.proofs.hubs.Hub.close_window.Goals as goal
-use Rattle.hub_core.specs.OpenHubs.{OpenHub}
-use Rattle.legal_days.specs.LegalWindows.{IsLegalWindow}
-use Rattle.std.proofs.Common.{subst}
+use Rattle.hub_core.proofs.Prelude.{IsLegalWindow, OpenHub, subst}
 
 pub returns-clause-sealed : goal.returns-clause-sealed
 returns-clause-sealed g c strong =

@@ -1,6 +1,6 @@
 use Rattle.hub_core.proofs.calls.FinalItems.{final_told, none_told}
 use Rattle.hub_core.proofs.hubs.Hub.final_item.Goals as goal
-use Rattle.std.proofs.Common.{arith, ◌∙◌}
+use Rattle.hub_core.proofs.Prelude.{arith, ◌∙◌}
 
 pub returns-then-at-sealed : goal.returns-then-at-sealed
 returns-then-at-sealed g c =

@@ -1,8 +1,6 @@
 use Rattle.hub_core.proofs.calls.HubLaws.{fresh_hub, fresh_out}
 use Rattle.hub_core.proofs.hubs.Hub.fresh.Goals as goal
-use Rattle.hub_core.specs.OpenHubs.{OpenHub, configuration_of}
-use Rattle.hub_core.specs.Steps.{opened}
-use Rattle.std.proofs.Common.{IsTrue, false, subst, sym, true, ◌↔◌, ◌≡◌, ◌∙◌}
+use Rattle.hub_core.proofs.Prelude.{IsTrue, OpenHub, configuration_of, false, opened, subst, sym, true, ◌↔◌, ◌∙◌, ◌≡◌}
 
 -- a device is out
 pub returns-then-is_some : goal.returns-then-is_some

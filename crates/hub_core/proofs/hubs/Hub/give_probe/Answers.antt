@@ -1,4 +1,4 @@
-use Rattle.device_gate.specs.declared.slips.Slip.{Slip}
+use Rattle.hub_core.proofs.Prelude.{IsProbeGiven, Slip, configuration_of, false, is_quiet, list_all, subst, sym, true, ◌≡◌, ◌≢◌, ◌⊎◌}
 use Rattle.hub_core.proofs.kept.BlockedMarks.{none_blocked}
 use Rattle.hub_core.proofs.calls.FinalItems.{probe_given_sealed, seen_so}
 use Rattle.hub_core.proofs.calls.HubMarks.{marks_probe_given, model_before}
@@ -6,13 +6,7 @@ use Rattle.hub_core.proofs.calls.Placings.{kept_for}
 use Rattle.hub_core.proofs.hubs.Hub.give_probe.Goals as goal
 use Rattle.hub_core.proofs.hubs.Hub.give_probe.Goals.{else-is_weak, then-is_weak}
 use Rattle.blocked_runs.specs.Marks.{AreLeft}
-use Rattle.hub_core.specs.BlockedRuns.{is_quiet}
-use Rattle.hub_core.specs.HubCalls.{IsProbeGiven}
 use Rattle.hub_core.specs.MarkedRuns.{IsAnsweredStill}
-use Rattle.hub_core.specs.OpenHubs.{configuration_of}
-use Rattle.std.proofs.Common.{false, subst, sym}
-use Rattle.std.specs.List.{list_all}
-use Rattle.std.specs.Prelude.{true, ◌≡◌, ◌≢◌, ◌⊎◌}
 
 pub invariant_of-self-else-is_weak : goal.invariant_of-self-else-is_weak
 invariant_of-self-else-is_weak g c = record {

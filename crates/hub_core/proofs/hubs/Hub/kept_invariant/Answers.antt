@@ -1,8 +1,6 @@
 use Rattle.hub_core.proofs.calls.HubLaws.{kept_at, stands_hub}
 use Rattle.hub_core.proofs.hubs.Hub.kept_invariant.Goals as goal
-use Rattle.hub_core.specs.OpenHubs.{OpenHub}
-use Rattle.std.proofs.Common.{ap, ◌∙◌}
-use Rattle.std.specs.Prelude.{slice_get}
+use Rattle.hub_core.proofs.Prelude.{OpenHub, ap, slice_get, ◌∙◌}
 
 pub returns : goal.returns
 returns g c =

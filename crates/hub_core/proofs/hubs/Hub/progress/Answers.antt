@@ -1,6 +1,6 @@
 use Rattle.hub_core.proofs.calls.HubLaws.{kept_at, moves_hub}
 use Rattle.hub_core.proofs.hubs.Hub.progress.Goals as goal
-use Rattle.std.proofs.Common.{◌∙◌}
+use Rattle.hub_core.proofs.Prelude.{◌∙◌}
 
 pub returns : goal.returns
 returns g c =

@@ -1,7 +1,6 @@
 use Rattle.hub_core.proofs.calls.HubLaws.{quiet_hub}
 use Rattle.hub_core.proofs.hubs.Hub.quiet.Goals as goal
-use Rattle.std.proofs.Common.{◌∙◌}
-use Rattle.std.specs.Prelude.{None, Some}
+use Rattle.hub_core.proofs.Prelude.{None, Some, ◌∙◌}
 
 pub returns-in-Some-first_out : goal.returns-in-Some-first_out
 returns-in-Some-first_out g c = quiet_hub g.D.Device.shows _ _ (Some c.in-Some-first_out.d) (c.window.view_is ∙ c.self.view_is) c.window.invariant.shown c.in_default.ensures c.in-Some-first_out.ensures.some c.in-Some-first_out.ensures.none

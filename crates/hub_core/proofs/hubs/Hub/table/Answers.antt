@@ -1,11 +1,6 @@
 use Rattle.hub_core.proofs.calls.HubOrders.{bare_whole, few_whole, standing_whole}
 use Rattle.hub_core.proofs.hubs.Hub.table.Goals as goal
-use Rattle.history_book.specs.Settings.{is_weak}
-use Rattle.hub_core.specs.OpenHubs.{OpenHub, configuration_of}
-use Rattle.lineage_table.specs.Lineages.{accesses_at}
-use Rattle.lock_leasing.specs.Configurations.{point_of}
-use Rattle.lock_leasing.specs.Tables.{Represents}
-use Rattle.std.proofs.Common.{[], false, length, subst, true, ◌≡◌, ◌≤◌, ℕ, ◌∙◌}
+use Rattle.hub_core.proofs.Prelude.{OpenHub, Represents, [], accesses_at, configuration_of, false, is_weak, length, point_of, subst, true, ℕ, ◌∙◌, ◌≡◌, ◌≤◌}
 
 pub returns-clause-represents : goal.returns-clause-represents
 returns-clause-represents g c =

@@ -2,15 +2,10 @@ use Rattle.hub_core.proofs.calls.FinalItems.{seen_so, turn_sealed}
 use Rattle.hub_core.proofs.calls.HubMarks.{marks_goes, marks_wait}
 use Rattle.hub_core.proofs.calls.Placings.{still_for, turn_earliest}
 use Rattle.hub_core.proofs.hubs.Hub.take.Goals as goal
-use Rattle.device_gate.specs.declared.slips.Slip.{Slip}
-use Rattle.history_book.specs.Settings.{Setting, is_weak}
+use Rattle.hub_core.proofs.Prelude.{OpenHub, PlansEarliest, Setting, Slip, ap, configuration_of, false, is_weak, subst, sym, ◌∙◌, ◌≡◌, ◌≢◌}
 use Rattle.blocked_runs.specs.Marks.{AreLeft}
-use Rattle.hub_core.specs.HubCalls.{PlansEarliest}
 use Rattle.hub_core.specs.MarkedRuns.{is_out_for_command}
-use Rattle.hub_core.specs.OpenHubs.{OpenHub, configuration_of}
 use Rattle.hub_core.specs.declared.turns.Turn.TheVariants.{Wait}
-use Rattle.std.proofs.Common.{ap, false, subst, sym, ◌∙◌}
-use Rattle.std.specs.Prelude.{◌≡◌, ◌≢◌}
 
 pub invariant_of-self : goal.invariant_of-self
 invariant_of-self g c = record {

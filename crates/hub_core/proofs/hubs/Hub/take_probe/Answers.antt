@@ -1,8 +1,7 @@
 use Rattle.hub_core.proofs.calls.HubMarks.{marks_probed, model_before}
 use Rattle.hub_core.proofs.calls.Placings.{kept_for}
 use Rattle.hub_core.proofs.kept.BlockedMarks.{none_blocked}
-use Rattle.hub_core.specs.HubCalls.{IsProbed}
-use Rattle.std.proofs.Common.{None, Some, false, subst, sym}
+use Rattle.hub_core.proofs.Prelude.{IsProbed, None, Some, false, subst, sym}
 use Rattle.hub_core.proofs.hubs.Hub.take_probe.Goals.{else-is_weak, then-is_weak}
 use Rattle.hub_core.proofs.hubs.Hub.take_probe.Goals as goal
 

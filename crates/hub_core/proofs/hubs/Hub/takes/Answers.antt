@@ -1,7 +1,6 @@
 use Rattle.hub_core.proofs.calls.HubLaws.{command_out}
 use Rattle.hub_core.proofs.hubs.Hub.takes.Goals as goal
-use Rattle.window_devices.specs.declared.known.DeviceProgress.{DeviceProgress}
-use Rattle.std.proofs.Common.{ap, sym, ◌∙◌}
+use Rattle.hub_core.proofs.Prelude.{DeviceProgress, ap, sym, ◌∙◌}
 
 pub command-requires : goal.command-requires
 command-requires g c =

@@ -1,14 +1,9 @@
-use Rattle.history_book.specs.declared.entries.End.TheVariants.{Aborted}
+use Rattle.hub_core.proofs.Prelude.{Aborted, Aborts, configuration_of, live_stands, open_of, read_in}
 use Rattle.hub_core.proofs.calls.HubChanges.{Ending, chosen_here, follows_here, has_place}
 use Rattle.hub_core.proofs.calls.HubChoices.{aborting}
 use Rattle.hub_core.proofs.calls.HubOrders.{aborts_whole, hub_finished, read_whole}
 use Rattle.hub_core.proofs.kept.SealedOrders.{live_is_unsealed}
 use Rattle.hub_core.proofs.open_windows.OpenWindow.abort.Goals as goal
-use Rattle.hub_core.specs.HubsKept.{open_of}
-use Rattle.hub_core.specs.OpenHubs.{configuration_of}
-use Rattle.history_book.specs.ReadHistories.{read_in}
-use Rattle.hub_core.specs.declared.decisions.Chosen.TheVariants.{Aborts}
-use Rattle.window_order.proofs.Cited.{live_stands}
 
 pub withdraw-requires-clause-run : goal.withdraw-requires-clause-run
 withdraw-requires-clause-run g c =

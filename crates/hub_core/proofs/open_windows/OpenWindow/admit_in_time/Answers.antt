@@ -1,13 +1,8 @@
 use Rattle.hub_core.proofs.calls.HubOrders.{standing_size}
 use Rattle.hub_core.proofs.calls.Placings.{placed_so}
 use Rattle.hub_core.proofs.open_windows.OpenWindow.admit_in_time.Goals as goal
-use Rattle.hub_core.specs.OpenHubs.{configuration_of}
-use Rattle.hub_core.specs.Steps.{place_choice}
+use Rattle.hub_core.proofs.Prelude.{At, ap, arith, configuration_of, place_choice, read_of, split_at, ◌∙◌}
 use Rattle.jit_scheduler.specs.Admissions.{Admitting}
-use Rattle.lock_leasing.specs.Configurations.{read_of}
-use Rattle.lock_leasing.specs.Places.{At}
-use Rattle.history_book.specs.Lines.{split_at}
-use Rattle.std.proofs.Common.{ap, arith, ◌∙◌}
 
 pub admit-requires : goal.admit-requires
 admit-requires g c = Admitting (configuration_of c.args.self.now) c.standing.ensures c.requires.turn

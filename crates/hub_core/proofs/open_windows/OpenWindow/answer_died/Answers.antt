@@ -1,20 +1,10 @@
-use Rattle.command_rules.specs.Rosters.{run_no}
-use Rattle.history_book.proofs.Cited.{takes_first}
-use Rattle.history_book.specs.Packed.{entries_made}
-use Rattle.history_book.specs.ReadHistories.{HistoryState}
-use Rattle.history_book.specs.Settings.{is_weak}
-use Rattle.history_book.specs.declared.entries.Entry.TheVariants.{Did}
-use Rattle.home_types.specs.declared.commands.Answer.TheVariants.{Down}
+use Rattle.hub_core.proofs.Prelude.{Commands, Did, Down, HistoryState, Inside, Some, ap, arith, entries_made, is_weak, refl, run_no, sym, takes_first, ◌<◌, ◌∙◌}
 use Rattle.hub_core.proofs.calls.Deaths.{after_death, death_entries, death_follows, death_made, death_may, died_back, died_whole, found_first}
 use Rattle.hub_core.proofs.calls.Homecomings.{CameHome, back_given, grip_back, may_come}
 use Rattle.hub_core.proofs.calls.HubChanges.{doom_follows}
 use Rattle.hub_core.proofs.calls.HubReturns.{command_back}
 use Rattle.hub_core.proofs.open_windows.OpenWindow.answer_died.Goals as goal
 use Rattle.hub_core.proofs.steps.LastAnswers.{just_answered}
-use Rattle.hub_core.specs.declared.open_windows.OpenWindow.TheInside.{Inside}
-use Rattle.std.proofs.Common.{ap, arith, refl, sym, ◌∙◌}
-use Rattle.std.specs.Prelude.{Some, ◌<◌}
-use Rattle.lock_leasing.specs.declared.purposes.Purpose.TheVariants.{Commands}
 
 pub come_home-came-requires : goal.come_home-came-requires
 come_home-came-requires g c = record { may = may_come c.self.inside c.args.self.now c.args.grip c.self.view_is c.requires.kept c.self.invariant }

@@ -1,18 +1,8 @@
-use Rattle.serial_line.specs.Marks.{Marked}
-use Rattle.history_book.proofs.Cited.{takes_first}
-use Rattle.history_book.specs.Packed.{entries_made}
-use Rattle.history_book.specs.Settings.{is_weak}
-use Rattle.history_book.specs.declared.entries.Entry.TheVariants.{Did}
-use Rattle.home_types.specs.declared.commands.Answer.TheVariants.{Down}
+use Rattle.hub_core.proofs.Prelude.{AnswersDown, Did, Down, HistoryState, Inside, Marked, None, Some, ap, entries_made, is_weak, refl, sym, takes_first, ◌∙◌}
 use Rattle.hub_core.proofs.calls.HubChanges.{Going, chosen_here, doom_follows, entered_answers, takes_here}
 use Rattle.hub_core.proofs.calls.HubOrders.{down_made, down_place, may_tell_down, told_enters, told_place, told_takes, told_whole}
 use Rattle.hub_core.proofs.open_windows.OpenWindow.answer_down.Goals as goal
 use Rattle.hub_core.proofs.steps.LastAnswers.{just_answered}
-use Rattle.history_book.specs.ReadHistories.{HistoryState}
-use Rattle.hub_core.specs.declared.decisions.Chosen.TheVariants.{AnswersDown}
-use Rattle.hub_core.specs.declared.open_windows.OpenWindow.TheInside.{Inside}
-use Rattle.std.proofs.Common.{ap, refl, sym, ◌∙◌}
-use Rattle.std.specs.Prelude.{None, Some}
 
 pub command-requires : goal.command-requires
 command-requires g c =

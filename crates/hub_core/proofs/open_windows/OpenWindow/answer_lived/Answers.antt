@@ -1,11 +1,4 @@
-use Rattle.command_rules.specs.Rosters.{run_no}
-use Rattle.device_gate.specs.Calls.{answer_told}
-use Rattle.history_book.proofs.Cited.{takes_first}
-use Rattle.history_book.specs.Packed.{entries_made}
-use Rattle.history_book.specs.ReadHistories.{HistoryState, with_doom}
-use Rattle.history_book.specs.Readings.{is_access}
-use Rattle.history_book.specs.Settings.{is_weak}
-use Rattle.history_book.specs.declared.entries.Entry.TheVariants.{Did}
+use Rattle.hub_core.proofs.Prelude.{Commands, Did, HistoryState, Inside, None, Some, answer_told, ap, arith, entries_made, is_access, is_weak, refl, run_no, sym, takes_first, with_doom, ◌∙◌}
 use Rattle.hub_core.proofs.calls.Homecomings.{CameHome, back_given, grip_back, may_come}
 use Rattle.hub_core.proofs.calls.HubChanges.{answer_entries, doom_follows}
 use Rattle.hub_core.proofs.calls.HubReturns.{answer_made, answer_place, answered_back, command_back, doom_place, takes_answer}
@@ -13,10 +6,6 @@ use Rattle.hub_core.proofs.calls.ReturnedOrders.{answered_whole, may_tell}
 use Rattle.hub_core.proofs.open_windows.OpenWindow.answer_lived.Goals as goal
 use Rattle.hub_core.proofs.steps.Gives.{told_access}
 use Rattle.hub_core.proofs.steps.LastAnswers.{just_answered}
-use Rattle.hub_core.specs.declared.open_windows.OpenWindow.TheInside.{Inside}
-use Rattle.lock_leasing.specs.declared.purposes.Purpose.TheVariants.{Commands}
-use Rattle.std.proofs.Common.{ap, arith, refl, sym, ◌∙◌}
-use Rattle.std.specs.Prelude.{None, Some}
 
 pub come_home-came-requires : goal.come_home-came-requires
 come_home-came-requires g c = record { may = may_come c.self.inside c.args.self.now c.args.grip c.self.view_is c.requires.kept c.self.invariant }

@@ -1,10 +1,7 @@
 use Rattle.hub_core.proofs.calls.HubChanges.{Going, chosen_here, follows_here, has_place}
 use Rattle.hub_core.proofs.calls.HubOrders.{arrives_whole}
-use Rattle.history_book.specs.declared.entries.Entry.TheVariants.{Arrived}
+use Rattle.hub_core.proofs.Prelude.{Arrived, Arrives, ap, refl, with_entry, ◌∙◌}
 use Rattle.hub_core.proofs.open_windows.OpenWindow.arrive.Goals as goal
-use Rattle.history_book.specs.ReadHistories.{with_entry}
-use Rattle.hub_core.specs.declared.decisions.Chosen.TheVariants.{Arrives}
-use Rattle.std.proofs.Common.{ap, refl, ◌∙◌}
 
 pub push-requires-clause-room : goal.push-requires-clause-room
 push-requires-clause-room g c = has_place c.self.inside c.args.r.0 c.args.moment _ Going (chosen_here c.self.inside c.args.self.now c.args.r.0 c.args.moment Arrives c.self.view_is c.requires) c.self.invariant

@@ -2,11 +2,7 @@ use Rattle.history_book.specs.declared.records.WindowRecord.{WindowRecord}
 use Rattle.hub_core.proofs.calls.HubCloses.{Closes, Tells, all_are_home, faults_fell, home_left, hub_leaves, items_fit, turns_fell, window_closed}
 use Rattle.hub_core.proofs.open_windows.OpenWindow.closed.Goals as goal
 use Rattle.hub_core.proofs.windows.Closings.{IsLastState}
-use Rattle.hub_core.specs.HubCalls.{WindowIsClosed}
-use Rattle.hub_core.specs.HubsKept.{open_of}
-use Rattle.hub_core.specs.OpenHubs.{OpenHub, configuration_of}
-use Rattle.hub_core.specs.Steps.{not_quiet}
-use Rattle.std.proofs.Common.{None, arith, subst, sym, ◌+◌, ◌∙◌, ◌≡◌}
+use Rattle.hub_core.proofs.Prelude.{None, OpenHub, WindowIsClosed, arith, configuration_of, not_quiet, open_of, subst, sym, ◌+◌, ◌∙◌, ◌≡◌}
 
 -- every device is home
 pub close-devices-requires : goal.close-devices-requires

@@ -1,10 +1,6 @@
-use Rattle.device_gate.specs.Calls.{has_died}
+use Rattle.hub_core.proofs.Prelude.{DeviceProgress, ap, has_died, is_undo, progress_at, sym, ◌∙◌}
 use Rattle.hub_core.proofs.calls.HubReturns.{no_probe}
 use Rattle.hub_core.proofs.open_windows.OpenWindow.come_home.Goals as goal
-use Rattle.window_devices.specs.KnownDevices.{progress_at}
-use Rattle.window_devices.specs.declared.known.DeviceProgress.{DeviceProgress}
-use Rattle.lock_leasing.specs.Configurations.{is_undo}
-use Rattle.std.proofs.Common.{ap, sym, ◌∙◌}
 
 pub answer_died-requires-clause-purpose : goal.answer_died-requires-clause-purpose
 answer_died-requires-clause-purpose g c =

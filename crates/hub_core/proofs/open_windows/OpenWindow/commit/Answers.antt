@@ -1,8 +1,7 @@
-use Rattle.history_book.specs.declared.entries.End.TheVariants.{Committed}
+use Rattle.hub_core.proofs.Prelude.{Commits, Committed}
 use Rattle.hub_core.proofs.calls.HubChanges.{Ending, chosen_here, follows_here, has_place}
 use Rattle.hub_core.proofs.calls.HubOrders.{commits_whole}
 use Rattle.hub_core.proofs.open_windows.OpenWindow.commit.Goals as goal
-use Rattle.hub_core.specs.declared.decisions.Chosen.TheVariants.{Commits}
 
 pub push-requires-clause-room : goal.push-requires-clause-room
 push-requires-clause-room g c = has_place c.self.inside c.args.r.0 c.args.moment _ (Ending Committed) (chosen_here c.self.inside c.args.self.now c.args.r.0 c.args.moment Commits c.self.view_is c.requires) c.self.invariant

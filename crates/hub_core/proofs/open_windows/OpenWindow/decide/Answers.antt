@@ -1,13 +1,9 @@
-use Rattle.command_rules.specs.Rosters.{is_run}
-use Rattle.std.specs.Prelude.{false, is_some, max, ◌≡◌}
-use Rattle.lock_leasing.specs.Configurations.{point_of, read_of}
+use Rattle.hub_core.proofs.Prelude.{OpenHub, ap, configuration_of, false, is_run, is_some, max, point_of, read_of, subst, sym, ◌∙◌, ◌≡◌}
 use Rattle.hub_core.specs.Decisions.{strong_command, told_choice}
 use Rattle.history_book.specs.Progress.{progress_of}
-use Rattle.hub_core.specs.OpenHubs.{OpenHub, configuration_of}
 use Rattle.hub_core.proofs.calls.HubChanges.{strong_seen}
 use Rattle.hub_core.proofs.calls.HubChoices.{hub_answers, hub_at_command, hub_commands, hub_dooms, hub_is_live, hub_skips, hub_under_way, hub_weakly, placed_before}
 use Rattle.hub_core.proofs.open_windows.OpenWindow.decide.Goals as goal
-use Rattle.std.proofs.Common.{ap, subst, sym, ◌∙◌}
 
 pub grip_of-requires : goal.grip_of-requires
 grip_of-requires g c = sym (c.if-not-has_run.ensures ∙ ap (λ s. is_run s.setting.runs c.args.r.0) c.self.view_is)

@@ -1,8 +1,6 @@
 use Rattle.hub_core.proofs.calls.HubChoices.{answered_commits, answered_fails, down_said}
 use Rattle.hub_core.proofs.open_windows.OpenWindow.decide_answered.Goals as goal
-use Rattle.hub_core.specs.OpenHubs.{configuration_of}
-use Rattle.lock_leasing.specs.Configurations.{point_of}
-use Rattle.std.proofs.Common.{ap, ◌∙◌}
+use Rattle.hub_core.proofs.Prelude.{ap, configuration_of, point_of, ◌∙◌}
 use Rattle.visibility_models.specs.Models.{InOrder}
 
 pub down_at_end-requires : goal.down_at_end-requires

@@ -1,13 +1,6 @@
-use Rattle.command_rules.specs.Rosters.{command_at}
-use Rattle.home_types.specs.declared.commands.Command.{Command}
+use Rattle.hub_core.proofs.Prelude.{Command, IsAsking, IsAtCommand, OpenHub, asks_at, command_at, configuration_of, point_of, subst, ℕ, ◌≡◌}
 use Rattle.hub_core.proofs.calls.HubChoices.{command_revokes, command_stays}
 use Rattle.hub_core.proofs.open_windows.OpenWindow.decide_command.Goals as goal
-use Rattle.hub_core.specs.OpenHubs.{OpenHub, configuration_of}
-use Rattle.lock_leasing.proofs.Cited.{asks_at}
-use Rattle.lock_leasing.specs.Configurations.{point_of}
-use Rattle.lock_leasing.specs.Standings.{IsAsking, IsAtCommand}
-use Rattle.std.proofs.Common.{subst}
-use Rattle.std.specs.Prelude.{ℕ, ◌≡◌}
 
 -- the run asks for the device of the command
 asks : {D : Type 0} (s : OpenHub D) (r k : ℕ) (c : Command) → IsAtCommand (configuration_of s) r k → command_at s.setting.runs r k ≡ c → IsAsking (configuration_of s) r c.device.0

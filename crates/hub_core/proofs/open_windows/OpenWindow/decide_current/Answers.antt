@@ -1,9 +1,6 @@
 use Rattle.hub_core.proofs.calls.HubChoices.{command_behind, command_dirty, command_strict, command_unbarred, strict_said, touch_said}
 use Rattle.hub_core.proofs.open_windows.OpenWindow.decide_current.Goals as goal
-use Rattle.hub_core.specs.OpenHubs.{configuration_of}
-use Rattle.lock_leasing.specs.Configurations.{point_of}
-use Rattle.lock_leasing.specs.Standings.{Touching}
-use Rattle.std.proofs.Common.{ap, ◌∙◌}
+use Rattle.hub_core.proofs.Prelude.{Touching, ap, configuration_of, point_of, ◌∙◌}
 use Rattle.visibility_models.specs.Models.{InOrder}
 
 pub test_touch-requires : goal.test_touch-requires

@@ -2,10 +2,7 @@ use Rattle.abort_rollback.specs.Undos.{next_undo}
 use Rattle.hub_core.proofs.calls.HubChoices.{doomed_busy, doomed_drops, doomed_ends, doomed_goes, driven_is, dropped_is}
 use Rattle.hub_core.proofs.calls.NextUndos.{next_undo_is}
 use Rattle.hub_core.proofs.open_windows.OpenWindow.decide_doomed.Goals as goal
-use Rattle.hub_core.specs.OpenHubs.{configuration_of}
-use Rattle.lock_leasing.specs.Configurations.{point_of}
-use Rattle.lock_leasing.specs.Standings.{WindowParts}
-use Rattle.std.proofs.Common.{ap, sym, ◌∙◌}
+use Rattle.hub_core.proofs.Prelude.{WindowParts, ap, configuration_of, point_of, sym, ◌∙◌}
 
 pub returns-then-is_out : goal.returns-then-is_out
 returns-then-is_out g c = λ m.

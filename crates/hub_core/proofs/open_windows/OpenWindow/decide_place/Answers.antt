@@ -1,10 +1,7 @@
-use Rattle.command_rules.specs.Rosters.{is_run}
-use Rattle.history_book.specs.Settings.{scheduler_of}
+use Rattle.hub_core.proofs.Prelude.{OpenHub, ap, configuration_of, is_run, scheduler_of, sym, ◌∙◌}
 use Rattle.hub_core.proofs.calls.HubOrders.{standing_fits}
 use Rattle.hub_core.proofs.calls.Placings.{holds_gap, placed_between, timed_place}
 use Rattle.hub_core.proofs.open_windows.OpenWindow.decide_place.Goals as goal
-use Rattle.hub_core.specs.OpenHubs.{OpenHub, configuration_of}
-use Rattle.std.proofs.Common.{ap, sym, ◌∙◌}
 use Rattle.timeline_scheduler.specs.Placings.{Planning}
 
 pub place-requires-clause-may : goal.place-requires-clause-may

@@ -1,11 +1,8 @@
 use Rattle.hub_core.proofs.calls.HubChoices.{unbarred_busy, unbarred_down, unbarred_goes, unbarred_seen}
-use Rattle.std.specs.Prelude.{false}
+use Rattle.hub_core.proofs.Prelude.{configuration_of, false, point_of, sym, ◌∙◌}
 use Rattle.hub_core.proofs.calls.HubChanges.{strong_here}
 use Rattle.hub_core.proofs.calls.SeenDevices.{seen_at}
 use Rattle.hub_core.proofs.open_windows.OpenWindow.decide_unbarred.Goals as goal
-use Rattle.hub_core.specs.OpenHubs.{configuration_of}
-use Rattle.lock_leasing.specs.Configurations.{point_of}
-use Rattle.std.proofs.Common.{sym, ◌∙◌}
 
 pub sees_down-requires : goal.sees_down-requires
 sees_down-requires g c = (seen_at c.self.inside c.args.self.now c.args.r.0 c.args.k c.args.command c.self.view_is c.requires.turn c.requires.command (strong_here c.self.inside c.args.self.now false c.self.view_is c.requires.strong) c.self.invariant).below

@@ -1,6 +1,6 @@
 use Rattle.hub_core.proofs.calls.HubOrders.{hub_downs, next_home}
 use Rattle.hub_core.proofs.open_windows.OpenWindow.decide_weakly.Goals as goal
-use Rattle.std.proofs.Common.{sym}
+use Rattle.hub_core.proofs.Prelude.{sym}
 
 pub is_up-requires : goal.is_up-requires
 is_up-requires g c = next_home c.self.inside c.args.r.0 c.in-Some-next_command.command c.in-Some-next_command.ensures c.self.invariant

@@ -1,8 +1,7 @@
 use Rattle.hub_core.proofs.calls.HubChanges.{Going, chosen_here, entered_answers, follows_here, has_place}
 use Rattle.hub_core.proofs.calls.HubOrders.{dropped_there, drops_whole}
 use Rattle.hub_core.proofs.open_windows.OpenWindow.drop_undo.Goals as goal
-use Rattle.hub_core.specs.declared.decisions.Chosen.TheVariants.{Drops}
-use Rattle.hub_core.specs.declared.open_windows.OpenWindow.TheInside.{Inside}
+use Rattle.hub_core.proofs.Prelude.{Drops, Inside}
 
 pub undone-requires : goal.undone-requires
 undone-requires g c = dropped_there c.self.inside c.args.r.0 c.args.moment c.args.d.0 (chosen_here c.self.inside c.args.self.now c.args.r.0 c.args.moment (Drops c.args.d) c.self.view_is c.requires) c.self.invariant

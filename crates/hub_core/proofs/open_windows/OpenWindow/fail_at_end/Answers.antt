@@ -1,7 +1,7 @@
 use Rattle.hub_core.proofs.calls.HubChanges.{Going, chosen_here, follows_here, has_place}
 use Rattle.hub_core.proofs.calls.HubOrders.{fails_whole}
 use Rattle.hub_core.proofs.open_windows.OpenWindow.fail_at_end.Goals as goal
-use Rattle.hub_core.specs.declared.decisions.Chosen.TheVariants.{FailsAtEnd}
+use Rattle.hub_core.proofs.Prelude.{FailsAtEnd}
 
 pub push-requires-clause-room : goal.push-requires-clause-room
 push-requires-clause-room g c = has_place c.self.inside c.args.r.0 c.args.moment _ Going (chosen_here c.self.inside c.args.self.now c.args.r.0 c.args.moment (FailsAtEnd c.args.d) c.self.view_is c.requires) c.self.invariant

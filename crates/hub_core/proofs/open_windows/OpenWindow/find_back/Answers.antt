@@ -1,9 +1,7 @@
 use Rattle.hub_core.proofs.calls.Homecomings.{may_come}
 use Rattle.hub_core.proofs.calls.ProbesFound.{back_follows, back_may, risen_given, risen_whole}
 use Rattle.hub_core.proofs.open_windows.OpenWindow.find_back.Goals as goal
-use Rattle.hub_core.specs.declared.open_windows.OpenWindow.TheInside.{Inside}
-use Rattle.std.proofs.Common.{ap, arith, refl, ◌∙◌}
-use Rattle.std.specs.Prelude.{[], ◌∷◌}
+use Rattle.hub_core.proofs.Prelude.{Inside, [], ap, arith, refl, ◌∙◌, ◌∷◌}
 
 pub come_home-came-requires : goal.come_home-came-requires
 come_home-came-requires g c = record { may = may_come c.self.inside c.args.self.now c.args.grip c.self.view_is c.requires.kept c.self.invariant }

@@ -1,10 +1,7 @@
-use Rattle.history_book.specs.Packed.{entries_made}
+use Rattle.hub_core.proofs.Prelude.{Inside, None, Some, arith, entries_made, refl}
 use Rattle.hub_core.proofs.calls.Homecomings.{may_come}
 use Rattle.hub_core.proofs.calls.ProbesFound.{dead_follows, dead_may, fallen_given, fallen_made, fallen_whole, lost_fits}
 use Rattle.hub_core.proofs.open_windows.OpenWindow.find_dead.Goals as goal
-use Rattle.hub_core.specs.declared.open_windows.OpenWindow.TheInside.{Inside}
-use Rattle.std.proofs.Common.{arith, refl}
-use Rattle.std.specs.Prelude.{None, Some}
 
 pub come_home-came-requires : goal.come_home-came-requires
 come_home-came-requires g c = record { may = may_come c.self.inside c.args.self.now c.args.grip c.self.view_is c.requires.kept c.self.invariant }

@@ -1,8 +1,7 @@
 use Rattle.hub_core.proofs.calls.Homecomings.{may_come}
 use Rattle.hub_core.proofs.calls.ProbesFound.{same_given, same_whole}
 use Rattle.hub_core.proofs.open_windows.OpenWindow.find_same.Goals as goal
-use Rattle.hub_core.specs.declared.open_windows.OpenWindow.TheInside.{Inside}
-use Rattle.std.proofs.Common.{[], arith, refl}
+use Rattle.hub_core.proofs.Prelude.{Inside, [], arith, refl}
 
 pub come_home-requires : goal.come_home-requires
 come_home-requires g c = record { may = may_come c.self.inside c.args.self.now c.args.grip c.self.view_is c.requires.kept c.self.invariant }

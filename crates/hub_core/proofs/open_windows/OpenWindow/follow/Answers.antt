@@ -1,10 +1,8 @@
 use Rattle.hub_core.proofs.calls.Placings.{joins_unplaced}
 use Rattle.hub_core.proofs.open_windows.OpenWindow.follow.Goals as goal
 use Rattle.hub_core.specs.Decisions.{told_choice}
-use Rattle.hub_core.specs.OpenHubs.{configuration_of}
+use Rattle.hub_core.proofs.Prelude.{choice_of, configuration_of, max, subst, sym, ◌≡◌}
 use Rattle.hub_core.specs.PlannedPlaces.{HoldsChosen}
-use Rattle.hub_core.specs.Steps.{choice_of}
-use Rattle.std.proofs.Common.{max, subst, sym, ◌≡◌}
 
 -- a run that is to be placed has no place yet, so the scratch holds its times
 pub join-requires-clause-planned : goal.join-requires-clause-planned

@@ -1,9 +1,7 @@
-use Rattle.device_gate.specs.Places.{slip_of}
+use Rattle.hub_core.proofs.Prelude.{ap, false, refl, slice_get, slip_of, sym, true, ◌∙◌, ◌≡◌}
 use Rattle.hub_core.proofs.calls.HubRefusals.{not_a_run, not_out, refused_given}
 use Rattle.hub_core.proofs.open_windows.OpenWindow.give.Goals as goal
 use Rattle.hub_core.proofs.open_windows.OpenWindow.give.Goals.{then-slip-eq0-via-else-slip-eq0+then-not-is_kept, then-slip-eq0-via-then-slip-eq0}
-use Rattle.std.proofs.Common.{ap, refl, sym, ◌∙◌}
-use Rattle.std.specs.Prelude.{false, slice_get, true, ◌≡◌}
 
 pub returns-then-slip-eq0-clause-given : goal.returns-then-slip-eq0-clause-given
 returns-then-slip-eq0-clause-given g c =

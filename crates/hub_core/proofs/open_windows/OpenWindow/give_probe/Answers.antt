@@ -1,9 +1,7 @@
-use Rattle.device_gate.specs.Places.{slip_of}
+use Rattle.hub_core.proofs.Prelude.{ap, false, refl, slice_get, slip_of, true, ◌∙◌, ◌≡◌}
 use Rattle.hub_core.proofs.calls.HubRefusals.{not_a_probe, not_probed, refused_probe}
 use Rattle.hub_core.proofs.open_windows.OpenWindow.give_probe.Goals as goal
 use Rattle.hub_core.proofs.open_windows.OpenWindow.give_probe.Goals.{then-slip-ne0-via-else-slip-ne0+then-not-is_kept, then-slip-ne0-via-then-slip-ne0}
-use Rattle.std.proofs.Common.{ap, refl, ◌∙◌}
-use Rattle.std.specs.Prelude.{false, slice_get, true, ◌≡◌}
 
 pub returns-then-slip-ne0-clause-given : goal.returns-then-slip-ne0-clause-given
 returns-then-slip-ne0-clause-given g c =

@@ -1,13 +1,6 @@
-use Rattle.command_rules.specs.Rosters.{is_run}
+use Rattle.hub_core.proofs.Prelude.{ap, arith, configuration_of, grip_wait, is_run, open_of, option_copied, run_place, sym, ◌-◌, ◌∙◌}
 use Rattle.hub_core.proofs.calls.Departures.{is_there}
-use Rattle.history_book.proofs.Cited.{run_place}
 use Rattle.hub_core.proofs.open_windows.OpenWindow.grip_of.Goals as goal
-use Rattle.hub_core.specs.HubsKept.{open_of}
-use Rattle.hub_core.specs.OpenHubs.{configuration_of}
-use Rattle.lock_leasing.specs.Waits.{grip_wait}
-use Rattle.std.proofs.Common.{ap, arith, sym, ◌∙◌}
-use Rattle.std.specs.Option.{option_copied}
-use Rattle.std.specs.Prelude.{◌-◌}
 
 pub unwrap-requires : goal.unwrap-requires
 unwrap-requires g c =

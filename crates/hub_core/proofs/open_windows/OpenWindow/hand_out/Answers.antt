@@ -2,11 +2,8 @@ use Rattle.hub_core.proofs.calls.HubChanges.{chosen_here}
 use Rattle.hub_core.proofs.calls.HubOrders.{handed_whole, may_mark}
 use Rattle.hub_core.proofs.calls.HubOuts.{IsHanded, command_given, may_send, went_out}
 use Rattle.hub_core.proofs.open_windows.OpenWindow.hand_out.Goals as goal
-use Rattle.hub_core.specs.HubSteps.{task_of}
-use Rattle.hub_core.specs.OpenHubs.{configuration_of}
+use Rattle.hub_core.proofs.Prelude.{Inside, ap, configuration_of, refl, sym, task_of, ◌∙◌}
 use Rattle.hub_core.specs.declared.decisions.Chosen.TheVariants.{HandsOut}
-use Rattle.hub_core.specs.declared.open_windows.OpenWindow.TheInside.{Inside}
-use Rattle.std.proofs.Common.{ap, refl, sym, ◌∙◌}
 
 pub task-task-requires : goal.task-task-requires
 task-task-requires g c = record { command = λ k for. command_given _ _ c.args.self.now c.args.r.0 c.args.moment c.args.d.0 k c.args.purpose c.self.invariant.shown c.self.view_is c.requires for }

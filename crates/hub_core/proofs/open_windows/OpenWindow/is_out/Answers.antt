@@ -1,9 +1,6 @@
 use Rattle.hub_core.proofs.calls.HubChoices.{out_by_slip}
 use Rattle.hub_core.proofs.open_windows.OpenWindow.is_out.Goals as goal
-use Rattle.hub_core.specs.OpenHubs.{configuration_of}
-use Rattle.window_devices.specs.KnownDevices.{progress_at}
-use Rattle.lock_leasing.specs.Configurations.{is_out}
-use Rattle.std.proofs.Common.{ap, ◌∙◌}
+use Rattle.hub_core.proofs.Prelude.{ap, configuration_of, is_out, progress_at, ◌∙◌}
 
 pub returns : goal.returns
 returns g c =

@@ -1,16 +1,9 @@
-use Rattle.command_rules.specs.Rosters.{Run, plain_run}
-use Rattle.history_book.specs.Settings.{Setting}
+use Rattle.hub_core.proofs.Prelude.{List, None, Run, Setting, [], ap, ap₂, arith, length, most_items, open_of, option_copied, plain_run, slice_get, slice_get-get_or, subst, sym, ◌++◌, ◌+◌, ◌∙◌, ◌∷◌, ◌≡◌, ◌≤◌}
 use Rattle.hub_core.proofs.joins.JoinedRooms.{last_is}
 use Rattle.hub_core.proofs.joins.JoinedWindows.{in_home, in_table, joined_whole, may_here, roomier_whole}
 use Rattle.hub_core.proofs.open_windows.OpenWindow.join_run.Goals as goal
-use Rattle.hub_core.specs.Bounds.{most_items}
-use Rattle.hub_core.specs.HubsKept.{open_of}
 use Rattle.serial_line.proofs.Cited.{kept_size}
 use Rattle.serial_line.specs.KeptRuns.{AreKeptOf}
-use Rattle.std.proofs.Common.{ap, ap₂, arith, subst, sym, ◌∙◌}
-use Rattle.std.proofs.lemmas.Option.{slice_get-get_or}
-use Rattle.std.specs.Option.{option_copied}
-use Rattle.std.specs.Prelude.{List, None, [], length, slice_get, ◌+◌, ◌++◌, ◌≡◌, ◌≤◌, ◌∷◌}
 use Rattle.window_order.specs.Joins.{HasRoomFor}
 
 pub make_room-requires : goal.make_room-requires

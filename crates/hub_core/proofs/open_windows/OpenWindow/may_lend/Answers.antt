@@ -1,10 +1,6 @@
-use Rattle.history_book.specs.Settings.{is_weak}
+use Rattle.hub_core.proofs.Prelude.{NeverRevokes, OpenHub, Some, ap, configuration_of, is_weak, next_device, subst, sym, ◌∙◌, ◌≡◌}
 use Rattle.hub_core.proofs.open_windows.OpenWindow.may_lend.Goals as goal
 use Rattle.hub_core.proofs.waiting.Lending.{may_ask, served_calm, told_calm, unserved_strong}
-use Rattle.hub_core.specs.BlockedRuns.{NeverRevokes, next_device}
-use Rattle.hub_core.specs.OpenHubs.{OpenHub, configuration_of}
-use Rattle.std.proofs.Common.{ap, subst, sym, ◌∙◌}
-use Rattle.std.specs.Prelude.{Some, ◌≡◌}
 
 pub standing-requires : goal.standing-requires
 standing-requires g c = record { strong = ap (λ s. is_weak s.setting.mode) (sym c.self.view_is) ∙ unserved_strong c.self.inside.history.setting.mode c.scheduler.result c.scheduler.ensures c.in-JustInTime.is }

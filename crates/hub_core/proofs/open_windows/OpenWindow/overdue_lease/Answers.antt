@@ -1,12 +1,7 @@
-use Rattle.history_book.specs.Settings.{is_weak}
+use Rattle.hub_core.proofs.Prelude.{Asking, IsAsking, None, OpenHub, configuration_of, false, is_weak, point_of, subst, sym, ◌∙◌, ◌≡◌}
 use Rattle.hub_core.proofs.open_windows.OpenWindow.overdue_lease.Goals as goal
 use Rattle.hub_core.proofs.waiting.Lending.{served_leases}
-use Rattle.hub_core.specs.OpenHubs.{OpenHub, configuration_of}
-use Rattle.lock_leasing.specs.Configurations.{point_of}
 use Rattle.lock_leasing.specs.Leases.{overdue_lease}
-use Rattle.lock_leasing.specs.Standings.{Asking, IsAsking}
-use Rattle.std.proofs.Common.{subst, sym, ◌∙◌}
-use Rattle.std.specs.Prelude.{None, false, ◌≡◌}
 
 pub overdue-requires : goal.overdue-requires
 overdue-requires g c = Asking (configuration_of c.args.self.now) c.standing.ensures c.requires.turn

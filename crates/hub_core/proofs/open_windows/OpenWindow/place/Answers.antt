@@ -1,21 +1,10 @@
-use Rattle.command_rules.specs.Rosters.{is_run, runs_of}
-use Rattle.history_book.specs.declared.entries.Entry.TheVariants.{Placed}
+use Rattle.hub_core.proofs.Prelude.{ChangesEach, Joins, LineageState, List, Mark, MayArrange, Placed, Ran, ap, arith, drop, false, is_run, items_of, length, planned_times, read_in, runs_of, scheduled_with, stands, subst, subst₂, sym, with_entry, with_item, ◌∙◌}
 use Rattle.hub_core.proofs.calls.HubChanges.{Going, chosen_here, follows_here, has_place, strong_here}
 use Rattle.hub_core.proofs.calls.HubOrders.{hub_arranged, hub_arranges, hub_joins, hub_known, joins_behind, joins_planned, joins_whole, joins_within, line_place, marks_then}
 use Rattle.hub_core.proofs.kept.Arranged.{long_arranged}
 use Rattle.hub_core.proofs.open_windows.OpenWindow.place.Goals as goal
-use Rattle.window_order.specs.OrderStates.{MayArrange, scheduled_with}
-use Rattle.history_book.specs.Plans.{planned_times}
-use Rattle.history_book.specs.ReadHistories.{read_in, with_entry}
-use Rattle.hub_core.specs.declared.decisions.Chosen.TheVariants.{Joins}
-use Rattle.serial_line.specs.Marks.{Mark, items_of, stands, with_item}
-use Rattle.home_types.specs.declared.items.Item.TheVariants.{Ran}
-use Rattle.lineage_table.specs.Lineages.{LineageState}
-use Rattle.std.proofs.Common.{ap, arith, drop, false, length, subst, subst₂, sym, ◌∙◌}
-use Rattle.std.specs.Prelude.{List}
 use Rattle.timeline_scheduler.specs.PlannedUses.{AreUsesOf}
 use Rattle.timeline_scheduler.specs.Scratches.{ScratchRoom}
-use Rattle.window_order.specs.TableChanges.{ChangesEach}
 
 pub arrange-requires-clause-flags : goal.arrange-requires-clause-flags
 arrange-requires-clause-flags g c =

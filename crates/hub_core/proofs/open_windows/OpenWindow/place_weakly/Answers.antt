@@ -1,11 +1,7 @@
-use Rattle.history_book.specs.declared.entries.Entry.TheVariants.{Placed}
+use Rattle.hub_core.proofs.Prelude.{Joins, Placed, ap, refl, true, with_entry, ◌∙◌}
 use Rattle.hub_core.proofs.calls.HubChanges.{Going, chosen_here, follows_here, has_place, strong_here}
 use Rattle.hub_core.proofs.calls.HubOrders.{enters_whole, hub_absent, hub_known, joins_behind, joins_within, line_place}
 use Rattle.hub_core.proofs.open_windows.OpenWindow.place_weakly.Goals as goal
-use Rattle.history_book.specs.ReadHistories.{with_entry}
-use Rattle.hub_core.specs.declared.decisions.Chosen.TheVariants.{Joins}
-use Rattle.std.proofs.Common.{ap, refl, ◌∙◌}
-use Rattle.std.specs.Prelude.{true}
 
 pub insert-requires-clause-room : goal.insert-requires-clause-room
 insert-requires-clause-room g c = line_place c.self.inside c.args.r.0 c.args.at c.args.moment (chosen_here c.self.inside c.args.self.now c.args.r.0 c.args.moment (Joins c.args.at) c.self.view_is c.requires.chosen) c.self.invariant

@@ -1,8 +1,6 @@
 use Rattle.hub_core.proofs.calls.ProbesOut.{restores, restores_weakly}
 use Rattle.hub_core.proofs.open_windows.OpenWindow.restored.Goals as goal
-use Rattle.window_devices.specs.KnownDevices.{progress_at}
-use Rattle.window_devices.specs.declared.known.DeviceProgress.{DeviceProgress}
-use Rattle.std.proofs.Common.{ap, sym, ◌∙◌}
+use Rattle.hub_core.proofs.Prelude.{DeviceProgress, ap, progress_at, sym, ◌∙◌}
 
 pub returns-then-is_weak : goal.returns-then-is_weak
 returns-then-is_weak g c =

@@ -1,14 +1,7 @@
-use Rattle.command_rules.specs.Rosters.{is_run}
-use Rattle.history_book.specs.declared.entries.Cause.TheVariants.{Revoked}
-use Rattle.history_book.specs.declared.entries.Entry.TheVariants.{Doomed}
+use Rattle.hub_core.proofs.Prelude.{Doomed, OpenHub, Revoked, Revokes, ap, configuration_of, grip_wait, is_run, sym, with_entry, ◌∙◌}
 use Rattle.hub_core.proofs.calls.HubChanges.{Going, chosen_here, follows_here, has_place}
 use Rattle.hub_core.proofs.calls.Revocations.{borrowing, revokes_whole}
 use Rattle.hub_core.proofs.open_windows.OpenWindow.revoke.Goals as goal
-use Rattle.hub_core.specs.OpenHubs.{OpenHub, configuration_of}
-use Rattle.history_book.specs.ReadHistories.{with_entry}
-use Rattle.hub_core.specs.declared.decisions.Chosen.TheVariants.{Revokes}
-use Rattle.lock_leasing.specs.Waits.{grip_wait}
-use Rattle.std.proofs.Common.{ap, sym, ◌∙◌}
 
 pub grip_of-out-requires : goal.grip_of-out-requires
 grip_of-out-requires g c =

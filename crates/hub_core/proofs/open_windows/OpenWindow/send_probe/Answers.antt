@@ -1,9 +1,6 @@
 use Rattle.hub_core.proofs.calls.ProbesOut.{may_send_probe, probe_sent, sent_whole}
 use Rattle.hub_core.proofs.open_windows.OpenWindow.send_probe.Goals as goal
-use Rattle.hub_core.specs.OpenHubs.{configuration_of}
-use Rattle.hub_core.specs.Steps.{may_probe, restored}
-use Rattle.hub_core.specs.declared.open_windows.OpenWindow.TheInside.{Inside}
-use Rattle.std.proofs.Common.{ap, refl, sym, ◌∙◌}
+use Rattle.hub_core.proofs.Prelude.{Inside, ap, configuration_of, may_probe, refl, restored, sym, ◌∙◌}
 
 pub send-requires : goal.send-requires
 send-requires g c = record { may = may_send_probe c.self.inside c.args.self.now c.args.d.0 c.restored-value.result c.known-known.result c.self.view_is c.requires c.restored-value.ensures c.known-known.ensures c.self.invariant }

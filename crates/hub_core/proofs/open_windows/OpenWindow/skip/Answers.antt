@@ -1,13 +1,8 @@
-use Rattle.home_types.specs.declared.commands.Answer.TheVariants.{Skipped}
-use Rattle.history_book.specs.Settings.{is_weak}
+use Rattle.hub_core.proofs.Prelude.{HistoryState, Inside, Skipped, Skips, ap, is_weak, refl, sym, ◌∙◌}
 use Rattle.hub_core.proofs.calls.HubChanges.{Going, chosen_here, entered_answers, follows_here, has_place}
 use Rattle.hub_core.proofs.calls.SkippedCalls.{may_skip, skips_whole}
 use Rattle.hub_core.proofs.open_windows.OpenWindow.skip.Goals as goal
 use Rattle.hub_core.proofs.steps.LastAnswers.{just_answered}
-use Rattle.history_book.specs.ReadHistories.{HistoryState}
-use Rattle.hub_core.specs.declared.decisions.Chosen.TheVariants.{Skips}
-use Rattle.hub_core.specs.declared.open_windows.OpenWindow.TheInside.{Inside}
-use Rattle.std.proofs.Common.{ap, refl, sym, ◌∙◌}
 
 pub command-requires : goal.command-requires
 command-requires g c = let may = may_skip c.self.inside c.args.r.0 c.args.moment c.args.k (chosen_here c.self.inside c.args.self.now c.args.r.0 c.args.moment (Skips c.args.k) c.self.view_is c.requires) c.self.invariant in record { run = may.run; there = may.within }

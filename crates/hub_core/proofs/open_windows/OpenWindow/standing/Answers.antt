@@ -1,10 +1,7 @@
-use Rattle.command_rules.specs.Rosters.{runs_of}
+use Rattle.hub_core.proofs.Prelude.{IsStandingOf, OpenHub, configuration_of, false, runs_of, subst}
 use Rattle.hub_core.proofs.calls.HubChanges.{strong_here}
 use Rattle.hub_core.proofs.calls.HubOrders.{standing_whole}
 use Rattle.hub_core.proofs.open_windows.OpenWindow.standing.Goals as goal
-use Rattle.hub_core.specs.OpenHubs.{OpenHub, configuration_of}
-use Rattle.lock_leasing.specs.Standings.{IsStandingOf}
-use Rattle.std.proofs.Common.{false, subst}
 
 pub returns : goal.returns
 returns g c =

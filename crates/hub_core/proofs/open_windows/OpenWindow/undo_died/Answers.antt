@@ -1,15 +1,8 @@
-use Rattle.command_rules.specs.Rosters.{run_no}
-use Rattle.history_book.specs.Packed.{entries_made}
-use Rattle.history_book.specs.declared.entries.Entry.TheVariants.{Undid}
+use Rattle.hub_core.proofs.Prelude.{Inside, None, Some, Undid, Undoes, [], arith, entries_made, false, progress_at, refl, run_no, ◌∷◌}
 use Rattle.hub_core.proofs.calls.Deaths.{drop_follows, drop_may, drop_place, dropped_back, dropped_entries, dropped_whole, undo_follows}
 use Rattle.hub_core.proofs.calls.Homecomings.{CameHome, back_given, grip_back, may_come}
 use Rattle.hub_core.proofs.calls.HubReturns.{undone_value}
 use Rattle.hub_core.proofs.open_windows.OpenWindow.undo_died.Goals as goal
-use Rattle.window_devices.specs.KnownDevices.{progress_at}
-use Rattle.hub_core.specs.declared.open_windows.OpenWindow.TheInside.{Inside}
-use Rattle.lock_leasing.specs.declared.purposes.Purpose.TheVariants.{Undoes}
-use Rattle.std.proofs.Common.{arith, refl}
-use Rattle.std.specs.Prelude.{None, Some, [], false, ◌∷◌}
 
 pub come_home-came-requires : goal.come_home-came-requires
 come_home-came-requires g c = record { may = may_come c.self.inside c.args.self.now c.args.grip c.self.view_is c.requires.kept c.self.invariant }

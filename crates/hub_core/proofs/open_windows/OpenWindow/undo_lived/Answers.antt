@@ -2,10 +2,7 @@ use Rattle.hub_core.proofs.calls.Homecomings.{back_given, grip_back, may_come}
 use Rattle.hub_core.proofs.calls.HubReturns.{undo_place, undo_told, undone_back, undone_value}
 use Rattle.hub_core.proofs.calls.ReturnedOrders.{undone_whole}
 use Rattle.hub_core.proofs.open_windows.OpenWindow.undo_lived.Goals as goal
-use Rattle.window_devices.specs.KnownDevices.{progress_at}
-use Rattle.hub_core.specs.declared.open_windows.OpenWindow.TheInside.{Inside}
-use Rattle.lock_leasing.specs.declared.purposes.Purpose.TheVariants.{Undoes}
-use Rattle.std.proofs.Common.{arith, refl}
+use Rattle.hub_core.proofs.Prelude.{Inside, Undoes, arith, progress_at, refl}
 
 pub come_home-requires : goal.come_home-requires
 come_home-requires g c = record { may = may_come c.self.inside c.args.self.now c.args.grip c.self.view_is c.requires.kept c.self.invariant }

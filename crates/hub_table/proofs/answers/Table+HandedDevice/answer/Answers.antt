@@ -1,13 +1,7 @@
-use Rattle.device_gate.specs.Places.{kept_of}
-use Rattle.device_gate.specs.declared.gates.Place.TheVariants.{Home}
-use Rattle.device_gate.specs.declared.slips.Slip.{Slip}
+use Rattle.hub_table.proofs.Prelude.{Home, IsBack, Slip, ap, kept_of, refusal, slice_get, slice_set, subst, sym, ◌∙◌}
 use Rattle.hub_table.proofs.Answering.{answered_kept, is_held_answer}
 use Rattle.hub_table.proofs.Holding.{comes_home, out_held}
 use Rattle.hub_table.proofs.answers.Table+HandedDevice.answer.Goals as goal
-use Rattle.hub_table.specs.Answers.{refusal}
-use Rattle.hub_table.specs.Tables.{IsBack}
-use Rattle.std.proofs.Common.{ap, subst, sym, ◌∙◌}
-use Rattle.std.specs.Prelude.{slice_get, slice_set}
 
 pub returns-in-Some-clause-refused : goal.returns-in-Some-clause-refused
 returns-in-Some-clause-refused c =

@@ -1,10 +1,8 @@
-use Rattle.history_book.specs.Sealed.{BeginsWithSealed}
+use Rattle.hub_table.proofs.Prelude.{BeginsWithSealed, false, subst, ◌≡◌}
 use Rattle.history_book.specs.Settings.{is_weak}
 use Rattle.hub_table.proofs.Leaving.{empty_at_close}
 use Rattle.hub_table.proofs.tables.Table.close.Goals as goal
 use Rattle.legal_days.specs.LegalWindows.{history_of}
-use Rattle.std.proofs.Common.{subst}
-use Rattle.std.specs.Prelude.{false, ◌≡◌}
 
 pub drop_empty-requires : goal.drop_empty-requires
 drop_empty-requires g c = empty_at_close _ _ _ c.self.invariant c.in-Ok.ensures.closed.places

@@ -1,7 +1,6 @@
 use Rattle.hub_table.proofs.Leaving.{all_kept, last_kept, none_leaves, one_leaves}
 use Rattle.hub_table.proofs.tables.Table.drop.Goals as goal
-use Rattle.std.proofs.Common.{ap, ◌∙◌}
-use Rattle.std.specs.Prelude.{[], ◌++◌, ◌∷◌}
+use Rattle.hub_table.proofs.Prelude.{[], ap, ◌++◌, ◌∙◌, ◌∷◌}
 
 pub hands-init : goal.hands-init
 hands-init g c = all_kept c.self.inside.hub.places c.self.inside.grips.items c.self.invariant

@@ -1,9 +1,6 @@
-use Rattle.device_gate.specs.Places.{kept_of}
+use Rattle.hub_table.proofs.Prelude.{IsBack, ap, kept_of, slice_get, subst, sym, ◌∙◌}
 use Rattle.hub_table.proofs.Holding.{comes_home, held_kept, out_held}
 use Rattle.hub_table.proofs.tables.Table.give.Goals as goal
-use Rattle.hub_table.specs.Tables.{IsBack}
-use Rattle.std.proofs.Common.{ap, subst, sym, ◌∙◌}
-use Rattle.std.specs.Prelude.{slice_get}
 
 pub bring_home-requires : goal.bring_home-requires
 bring_home-requires g c = held_kept c.self.inside.hub.places c.self.inside.grips.items c.args.d.0 c.in-Some.grip c.self.invariant c.in-Some.ensures.found

@@ -1,7 +1,6 @@
 use Rattle.hub_table.proofs.Holding.{opens}
 use Rattle.hub_table.proofs.tables.Table.open.Goals as goal
-use Rattle.std.proofs.Common.{ap, arith}
-use Rattle.std.specs.Prelude.{length}
+use Rattle.hub_table.proofs.Prelude.{ap, arith, length}
 
 pub invariant_of-result : goal.invariant_of-result
 invariant_of-result g c = opens c.in-Ok-open_window.hub.places c.args.home.devices c.empty_hands-grips.result.items c.in-Ok-open_window.ensures.opened.places c.empty_hands-grips.ensures.empty

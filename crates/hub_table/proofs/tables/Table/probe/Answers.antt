@@ -1,13 +1,7 @@
-use Rattle.history_book.specs.Sealed.{StaysSealed}
-use Rattle.hub_core.specs.HubCalls.{IsProbed}
-use Rattle.hub_core.specs.OpenHubs.{configuration_of}
+use Rattle.hub_table.proofs.Prelude.{IsProbed, Some, StaysSealed, StoodInOrder, configuration_of, read_of, subst, subst₂, sym}
 use Rattle.hub_table.proofs.Holding.{probe_free, probe_keeps}
 use Rattle.hub_table.proofs.Standing.{probes_in_order}
 use Rattle.hub_table.proofs.tables.Table.probe.Goals as goal
-use Rattle.lock_leasing.specs.Configurations.{read_of}
-use Rattle.hub_table.specs.Tables.{StoodInOrder}
-use Rattle.std.proofs.Common.{subst, subst₂, sym}
-use Rattle.std.specs.Prelude.{Some}
 
 pub put-requires : goal.put-requires
 put-requires g c = record { free = probe_free c.self.inside.hub c.take_probe.new.self c.args.d.0 c.in-Some.grip c.self.inside.grips.items c.self.invariant c.in-Some.ensures.probed }

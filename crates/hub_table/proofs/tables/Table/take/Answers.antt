@@ -1,8 +1,7 @@
 use Rattle.hub_table.proofs.Standing.{goes_in_order}
 use Rattle.hub_table.proofs.Holding.{turn_free, turn_keeps}
 use Rattle.hub_table.proofs.tables.Table.take.Goals as goal
-use Rattle.hub_table.specs.Tables.{StoodInOrder}
-use Rattle.std.proofs.Common.{subst, subst₂, sym}
+use Rattle.hub_table.proofs.Prelude.{StoodInOrder, subst, subst₂, sym}
 
 pub put-requires : goal.put-requires
 put-requires g c = record { free = turn_free c.self.inside.hub c.take.new.self c.args.r.0 c.args.moment c.in-Go.grip c.slip-slip.result c.self.inside.grips.items c.self.invariant c.in-Go.ensures.turn c.slip-slip.ensures }

@@ -1,8 +1,6 @@
-use Rattle.hub_core.specs.OpenHubs.{configuration_of}
+use Rattle.hub_threads.proofs.Prelude.{SleepersAreBlocked, configuration_of, subst, sym}
 use Rattle.hub_threads.proofs.RunWords.{none_blocked}
 use Rattle.hub_threads.proofs.held.Held.new.Goals as goal
-use Rattle.hub_threads.specs.Sleepers.{SleepersAreBlocked}
-use Rattle.std.proofs.Common.{subst, sym}
 
 pub invariant_of-result : goal.invariant_of-result
 invariant_of-result g c = record {

@@ -1,12 +1,8 @@
-use Rattle.history_book.specs.Histories.{kept_by}
-use Rattle.hub_core.specs.HubCalls.{carried_by}
-use Rattle.hub_core.specs.OpenHubs.{OpenHub}
+use Rattle.hub_threads.proofs.Prelude.{OpenHub, ap, carried_by, kept_by, slice_get, subst, sym, ◌++◌, ◌+◌, ◌∙◌, ◌≡◌}
 use Rattle.hub_threads.proofs.Added.{probe_given_adds}
 use Rattle.hub_threads.proofs.Holding.{probe_given_held}
 use Rattle.hub_threads.proofs.Passes.{claimed, cleared, probe_taken_in}
 use Rattle.hub_threads.proofs.held.HeldStepsGripDone.give_probe.Goals as goal
-use Rattle.std.proofs.Common.{ap, subst, sym, ◌∙◌}
-use Rattle.std.specs.Prelude.{slice_get, ◌++◌, ◌+◌, ◌≡◌}
 
 pub unreachable-requires : goal.unreachable-requires
 unreachable-requires g c =

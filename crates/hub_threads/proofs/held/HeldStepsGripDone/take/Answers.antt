@@ -1,14 +1,9 @@
-use Rattle.history_book.specs.Histories.{kept_by}
-use Rattle.hub_core.specs.OpenHubs.{OpenHub}
+use Rattle.hub_threads.proofs.Prelude.{CanGoOut, OpenHub, ap, entries_told, is_idle, kept_by, length, rules, subst, sym, true, turn_entries, ◌++◌, ◌+◌, ◌∙◌, ◌≡◌}
 use Rattle.hub_threads.proofs.Added.{turn_adds}
 use Rattle.hub_threads.proofs.Holding.{idle_sleepers, turn_held}
 use Rattle.hub_threads.proofs.Passes.{turn_can, turn_pass}
 use Rattle.hub_threads.proofs.held.HeldStepsGripDone.take.Goals as goal
 use Rattle.hub_threads.proofs.held.HeldStepsGripDone.take.Goals.{else-not-is_idle, then-not-is_idle}
-use Rattle.hub_threads.specs.Named.{entries_told, is_idle, turn_entries}
-use Rattle.hub_threads.specs.Passes.{CanGoOut}
-use Rattle.std.proofs.Common.{ap, rules, subst, sym, ◌∙◌}
-use Rattle.std.specs.Prelude.{length, true, ◌++◌, ◌+◌, ◌≡◌}
 
 pub pass_for-pass-requires : goal.pass_for-pass-requires
 pass_for-pass-requires g c = record { home = subst (λ o. CanGoOut o c.take-turn.result) (sym c.self.invariant.out) (turn_can c.self.inside.hub c.take-turn.new.self c.args.r.0 c.args.moment c.take-turn.result c.take-turn.ensures.turn) }

@@ -1,8 +1,6 @@
-use Rattle.hub_core.specs.HubCalls.{IsProbed}
+use Rattle.hub_threads.proofs.Prelude.{IsProbed, Some, subst}
 use Rattle.hub_threads.proofs.Holding.{probed_held}
 use Rattle.hub_threads.proofs.held.HeldStepsGripDone.take_probe.Goals as goal
-use Rattle.std.proofs.Common.{subst}
-use Rattle.std.specs.Prelude.{Some}
 
 pub invariant_of-self-2 : goal.invariant_of-self-2
 invariant_of-self-2 g c =

@@ -1,8 +1,6 @@
 use Rattle.hub_threads.proofs.RunWords.{called, rests}
 use Rattle.hub_threads.proofs.sleepers.Sleepers.call.Goals as goal
-use Rattle.hub_threads.specs.Sleepers.{frees_places}
-use Rattle.std.proofs.Common.{rules, ◌<◌, ◌^◌}
-use Rattle.std.specs.Prelude.{if◌then◌else◌, ◌≡◌}
+use Rattle.hub_threads.proofs.Prelude.{frees_places, if◌then◌else◌, rules, ◌<◌, ◌^◌, ◌≡◌}
 
 pub returns-clause-called : goal.returns-clause-called
 returns-clause-called g c =

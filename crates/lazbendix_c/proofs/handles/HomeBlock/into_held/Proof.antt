@@ -6,28 +6,10 @@ use Rattle.lazbendix_c.specs.contracts.handles.HomeBlock as home_block
 use Rattle.lazbendix_c.specs.contracts.handles.HomeBlock.into_held.Key.{name as #self}
 use Rattle.lazbendix_c.specs.contracts.handles.HomeBlock.into_held.{clauses, ended}
 use Rattle.home_states.specs.contracts.homes.LiveHome as state
-use Rattle.core.proofs.alloc.Calls.{Goes-blank, handle_tells}
+use Rattle.lazbendix_c.proofs.Prelude.{ !, Env, Goes-blank, Goes-dropped, List, RattleType, SProp, Stays, Val, WpFn, [], agg, alive, alloc_all, and_then, block_ptr, by, drop, emp, ent, enter, env, fact, fact_i, fjoin, fld, free_all, fsplit, get, get_in, ghosts, handle_tells, heard, id⊢, keep, leaves, look_at, move, no_more, nothing, of_opd, owns, pass_all, plain, proved_at, qed, raw, refl, returns, sets, split, stay_dropped, stop, sub, subst, suffices, sym, tables, types_at, use0, vptr, walk_of, whole, ‵, ◌$◌, ◌++◌, ◌∙◌, ◌∵◌, ◌∷◌, ◌≡◌, ◌≢◌, ◌⊛◌}
 use Rattle.core.specs.declared.option.Option.TheVariants.{None, Some}
-use Rattle.std.proofs.Common.{List, [], refl, subst, sym, ◌++◌, ◌∙◌, ◌∷◌, ◌≡◌, ◌≢◌}
 use Rattle.std.proofs.alloc.Global.TheLaws as heap_laws
-use Rattle.std.proofs.raw_atomic.Walks.{leaves, proved_at}
 use Rattle.std.specs.contracts.alloc.Global as heap
-use Rattle.std.specs.contracts.impls.GlobalAllocator.TheImpl.{ghosts}
-use base.Logic.{SProp, emp, ent, id⊢}
-use contract.Monad.{fact, fact_i}
-use contract.Running.{tables}
-use denote.RattleType.{RattleType, owns}
-use denote.RawPtr.{block_ptr}
-use denote.Signature.{plain, types_at}
-use denote.Steps.{heard, nothing}
-use denote.Triple.Entry.{alive}
-use denote.Triple.Walked.{Goes-dropped, Stays, stay_dropped, walk_of}
-use mir.Val.{Val, vptr}
-use prog.Wp.{Env, WpFn}
-use types.ByLocal.{alloc_all, env, free_all, get, get_in, look_at, pass_all, sets}
-use types.Kit.{ !, by, drop, fjoin, fsplit, keep, move, qed, raw, split, suffices, use0, ‵, ◌$◌, ◌∵◌, ◌⊛◌}
-use types.Part.{agg, sub, whole}
-use types.Run.{and_then, enter, fld, no_more, of_opd, returns, stop}
 
 pub into_held_spec : {M : Type 1} → statement M
 into_held_spec 𝓤 𝓛 𝓜 𝓡 wired =

@@ -5,22 +5,8 @@ use Rattle.lazbendix_c.proofs.handles.HomeBlock.none.Statement.{statement}
 use Rattle.lazbendix_c.specs.contracts.handles.HomeBlock as home_block
 use Rattle.lazbendix_c.specs.contracts.handles.HomeBlock.none.Key.{name as #self}
 use Rattle.lazbendix_c.specs.contracts.handles.HomeBlock.none.{clauses, ended}
-use Rattle.std.proofs.Common.{None, [], refl, ◌∷◌, ◌≡◌}
-use Rattle.std.proofs.raw_atomic.Walks.{leaves, proved_at}
-use base.Logic.{SProp, emp}
-use contract.Monad.{fact, fact_i}
-use contract.Running.{tables}
-use denote.RattleType.{owns}
-use denote.RawPtr.{null_ptr}
-use denote.Signature.{types_at}
-use denote.Steps.{nothing}
-use denote.Triple.Walked.{Stays, walk_of}
-use mir.Val.{Val}
-use types.ByLocal.{alloc_all, env, free_all, look_at, pass_all, sets}
-use types.Kit.{ !, by, fjoin, keep, qed, raw, split, use0, ‵, ◌$◌, ◌∵◌, ◌⊛◌}
-use denote.Triple.Entry.{alive}
-use types.Part.{agg}
-use types.Run.{and_then, enter, lit, no_more, returns}
+use Rattle.lazbendix_c.proofs.Prelude.{ !, SProp, Stays, Val, [], agg, alive, alloc_all, and_then, by, emp, enter, env, fact, fact_i, fjoin, free_all, keep, leaves, lit, look_at, no_more, nothing, null_ptr, owns, pass_all, proved_at, qed, raw, refl, returns, sets, split, tables, types_at, use0, walk_of, ‵, ◌$◌, ◌∵◌, ◌∷◌, ◌≡◌, ◌⊛◌}
+use Rattle.std.proofs.Common.{None}
 
 pub none_spec : {M : Type 1} → statement M
 none_spec 𝓤 𝓛 𝓜 𝓡 wired =

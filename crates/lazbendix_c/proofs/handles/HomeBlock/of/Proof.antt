@@ -6,29 +6,10 @@ use Rattle.lazbendix_c.specs.contracts.handles.HomeBlock as home_block
 use Rattle.lazbendix_c.specs.contracts.handles.HomeBlock.of.Key.{name as #self}
 use Rattle.lazbendix_c.specs.contracts.handles.HomeBlock.of.{clauses, ended}
 use Rattle.home_states.specs.contracts.homes.LiveHome as state
-use Rattle.std.proofs.Common.{List, Some, [], refl, subst, sym, ◌++◌, ◌∷◌, ◌≡◌}
+use Rattle.lazbendix_c.proofs.Prelude.{ !, Global, Goes-blank, List, RattleType, SProp, Stays, Val, WpFn, [], agg, alive, alloc_all, and_then, block_ptr, box_owns, by, emp, ent, enter, env, fact, fact_i, fjoin, fld, fpack, free_all, fsplit, get, get_in, ghosts, id⊢, keep, leaves, look_at, move, no_more, nothing, of_opd, owns, pass_all, plain, proved_at, qed, raw, refl, returns, sets, split, stay_dropped, stop, sub, subst, suffices, sym, tables, types_at, use0, vptr, walk_of, whole, ‵, ◌$◌, ◌++◌, ◌∵◌, ◌∷◌, ◌≡◌, ◌⊛◌}
+use Rattle.std.proofs.Common.{Some}
 use Rattle.std.proofs.alloc.Global.TheLaws as heap_laws
-use Rattle.std.proofs.raw_atomic.Walks.{leaves, proved_at}
 use Rattle.std.specs.contracts.alloc.Global as heap
-use Rattle.std.specs.contracts.impls.GlobalAllocator.TheImpl.{ghosts}
-use Rattle.std.specs.declared.alloc.Global.{Global}
-use Rattle.std_alloc.specs.Box.Ownership.{box_owns}
-use Rattle.core.proofs.alloc.Calls.{Goes-blank}
-use base.Logic.{SProp, emp, ent, id⊢}
-use contract.Monad.{fact, fact_i}
-use contract.Running.{tables}
-use denote.RattleType.{RattleType, owns}
-use denote.RawPtr.{block_ptr}
-use denote.Signature.{plain, types_at}
-use denote.Steps.{nothing}
-use denote.Triple.Entry.{alive}
-use denote.Triple.Walked.{Stays, stay_dropped, walk_of}
-use mir.Val.{Val, vptr}
-use prog.Wp.{WpFn}
-use types.ByLocal.{alloc_all, env, free_all, get, get_in, look_at, pass_all, sets}
-use types.Kit.{ !, by, fjoin, fpack, fsplit, keep, move, qed, raw, split, suffices, use0, ‵, ◌$◌, ◌∵◌, ◌⊛◌}
-use types.Part.{agg, sub, whole}
-use types.Run.{and_then, enter, fld, no_more, of_opd, returns, stop}
 
 pub of_spec : {M : Type 1} → statement M
 of_spec 𝓤 𝓛 𝓜 𝓡 wired =

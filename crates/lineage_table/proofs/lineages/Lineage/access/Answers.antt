@@ -1,9 +1,6 @@
 use Rattle.lineage_table.proofs.Knots.{none_read, read}
 use Rattle.lineage_table.proofs.lineages.Lineage.access.Goals as goal
-use Rattle.chain_arena.specs.Chains.{values_of}
-use Rattle.lineage_table.specs.Accesses.{access_of}
-use Rattle.lineage_table.specs.Knots.{IsKnotOf}
-use Rattle.std.proofs.Common.{ap, subst, ◌∙◌}
+use Rattle.lineage_table.proofs.Prelude.{IsKnotOf, access_of, ap, subst, values_of, ◌∙◌}
 
 pub returns-in_err-k : goal.returns-in_err-k
 returns-in_err-k c =

@@ -1,12 +1,8 @@
-use Rattle.chain_arena.specs.Chains.{values_of}
+use Rattle.lineage_table.proofs.Prelude.{Access, Acquired, IsDisciplined, Released, Scheduled, Some, ap, effective_writer, has_access, length, refl, subst, sym, values_of, ◌∙◌}
 use Rattle.lineage_table.proofs.Keeping.{acquires, changed_state, found_by_status}
 use Rattle.lineage_table.proofs.Knots.{at_now, read_in_place, set_in_place}
 use Rattle.lineage_table.proofs.Writers.{keeps_changed}
 use Rattle.lineage_table.proofs.lineages.Lineage.acquire.Goals as goal
-use Rattle.lineage_table.specs.Accesses.{IsDisciplined, effective_writer, has_access}
-use Rattle.lineage_table.specs.declared.accesses.Access.{Access}
-use Rattle.lineage_table.specs.declared.accesses.Status.TheVariants.{Acquired, Released, Scheduled}
-use Rattle.std.proofs.Common.{Some, ap, length, refl, subst, sym, ◌∙◌}
 
 pub knot-k-requires : goal.knot-k-requires
 knot-k-requires c = ap (λ v. has_access c.args.r.0 v.accesses) c.self.view_is ∙ found_by_status c.args.r.0 c.args.self.now.accesses Scheduled c.requires.scheduled

@@ -1,9 +1,5 @@
-use Rattle.chain_arena.specs.Chains.{values_of}
+use Rattle.lineage_table.proofs.Prelude.{Access, Bool, first_before, values_of, ◌≡◌}
 use Rattle.lineage_table.proofs.lineages.Lineage.first_before.Given as goal
-use Rattle.lineage_table.specs.Accesses.{first_before}
-use Rattle.lineage_table.specs.declared.accesses.Access.{Access}
-use Rattle.std.proofs.Common.{◌≡◌}
-use Rattle.std.specs.Prelude.{Bool}
 
 -- the test holds of none so far, nor is one the run's own
 abbrev pub invariant-accesses : goal.invariant-accesses

@@ -1,15 +1,11 @@
-use Rattle.chain_arena.specs.Chains.{values_of}
+use Rattle.lineage_table.proofs.Prelude.{Access, IsDisciplined, accesses_before, ap, effective_writer, has_access, length, not, refl, slice_set, some_scheduled, subst, sym, values_of, ◌∙◌}
 use Rattle.lineage_table.proofs.Keeping.{answers, changed_state, found_to_answer}
 use Rattle.lineage_table.proofs.Knots.{at_now, read_in_place, set_in_place}
 use Rattle.lineage_table.proofs.Writers.{keeps_changed, keeps_written}
 use Rattle.lineage_table.proofs.lineages.Lineage.note.Goals as goal
 use Rattle.lineage_table.proofs.lineages.Lineage.note.Goals.{in-None, in-Some}
-use Rattle.lineage_table.specs.Accesses.{IsDisciplined, accesses_before, effective_writer, has_access, some_scheduled}
 use Rattle.lineage_table.specs.Answers.{answered_access}
-use Rattle.lineage_table.specs.declared.accesses.Access.{Access}
-use Rattle.std.proofs.Common.{ap, length, refl, subst, sym, ◌∙◌}
 use Rattle.std.specs.Option.{option_or}
-use Rattle.std.specs.Prelude.{not, slice_set}
 
 pub knot_in_turn-waits-requires : goal.knot_in_turn-waits-requires
 knot_in_turn-waits-requires c = ap (λ v. has_access c.args.r.0 v.accesses) c.self.view_is ∙ found_to_answer c.args.r.0 c.args.self.now.accesses c.requires

@@ -1,11 +1,8 @@
-use Rattle.chain_arena.specs.Chains.{values_of}
+use Rattle.lineage_table.proofs.Prelude.{IsDisciplined, ap, effective_writer, has_access, is_some, length, refl, subst, sym, values_of, ◌∙◌}
 use Rattle.lineage_table.proofs.Keeping.{has_place, nothing_removed, removed_state, without_keeps, without_remove}
 use Rattle.lineage_table.proofs.Knots.{at_now, none_placed, taken}
 use Rattle.lineage_table.proofs.Writers.{keeps_removed, not_last}
 use Rattle.lineage_table.proofs.lineages.Lineage.remove.Goals as goal
-use Rattle.lineage_table.specs.Accesses.{IsDisciplined, effective_writer, has_access}
-use Rattle.std.proofs.Common.{ap, length, refl, subst, sym, ◌∙◌}
-use Rattle.std.specs.Prelude.{is_some}
 
 pub writer_of-self-inside-requires : goal.writer_of-self-inside-requires
 writer_of-self-inside-requires c = λ stays.

@@ -1,12 +1,7 @@
 use Rattle.lineage_table.proofs.Keeping.{no_run_behind}
 use Rattle.lineage_table.proofs.Knots.{behind_there, first_from, none_placed}
 use Rattle.lineage_table.proofs.lineages.Lineage.run_behind.Goals as goal
-use Rattle.chain_arena.specs.Chains.{IsBehind, rest_of, values_of}
-use Rattle.lineage_table.specs.Accesses.{has_access, run_behind}
-use Rattle.lineage_table.specs.Knots.{IsKnotOf}
-use Rattle.lineage_table.specs.declared.accesses.Access.{Access}
-use Rattle.std.proofs.Common.{None, Some, ap, subst, sym, ◌∙◌}
-use Rattle.std.specs.Prelude.{option_map, slice_get}
+use Rattle.lineage_table.proofs.Prelude.{Access, IsBehind, IsKnotOf, None, Some, ap, has_access, option_map, rest_of, run_behind, slice_get, subst, sym, values_of, ◌∙◌}
 
 pub returns-in_err-k : goal.returns-in_err-k
 returns-in_err-k c =

@@ -1,10 +1,7 @@
-use Rattle.chain_arena.specs.Chains.{values_of}
+use Rattle.lineage_table.proofs.Prelude.{Scheduled, ap, arith, has_access, values_of, ◌∙◌}
 use Rattle.lineage_table.proofs.Keeping.{found_by_status, scheduled_state, schedules}
 use Rattle.lineage_table.proofs.Writers.{keeps_scheduled, nothing_written}
 use Rattle.lineage_table.proofs.lineages.Lineage.schedule.Goals as goal
-use Rattle.lineage_table.specs.Accesses.{has_access}
-use Rattle.lineage_table.specs.declared.accesses.Status.TheVariants.{Scheduled}
-use Rattle.std.proofs.Common.{ap, arith, ◌∙◌}
 
 pub put_in-requires-clause-before : goal.put_in-requires-clause-before
 put_in-requires-clause-before c = λ r is. ap (λ v. has_access r.0 v.accesses) c.self.view_is ∙ found_by_status r.0 c.args.self.now.accesses Scheduled (c.requires.before r is)

@@ -1,14 +1,10 @@
 use Rattle.chain_arena.proofs.Cited.{length_values}
-use Rattle.chain_arena.specs.Chains.{has_knot, value_at, values_of, without}
+use Rattle.lineage_table.proofs.Prelude.{IsDisciplined, None, ap, arith, false, has_access, has_knot, if◌then◌else◌, length, length-drop, subst, sym, true, value_at, values_of, without, ◌+◌, ◌∙◌}
 use Rattle.lineage_table.proofs.Keeping.{drop_keeps, found_by_value, settled_state, wrote_there}
 use Rattle.lineage_table.proofs.Knots.{at_now, left, left_has, left_length, left_value, read_in_place}
 use Rattle.lineage_table.proofs.Writers.{keeps_settled, tests_writer}
 use Rattle.lineage_table.proofs.lineages.Lineage.settle.Goals as goal
 use Rattle.lineage_table.proofs.lineages.Lineage.settle.Goals.{else-eq, then-eq}
-use Rattle.lineage_table.specs.Accesses.{IsDisciplined, has_access}
-use Rattle.std.proofs.Common.{ap, arith, length, subst, sym, ◌+◌, ◌∙◌}
-use Rattle.std.proofs.lemmas.List.{length-drop}
-use Rattle.std.specs.Prelude.{None, false, if◌then◌else◌, true}
 
 pub knot-k-requires : goal.knot-k-requires
 knot-k-requires c = ap (λ v. has_access c.args.r.0 v.accesses) c.self.view_is ∙ found_by_value c.args.r.0 c.args.self.now.accesses c.requires.wrote

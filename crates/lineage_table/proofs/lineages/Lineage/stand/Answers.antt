@@ -1,9 +1,7 @@
-use Rattle.chain_arena.specs.Chains.{values_of}
+use Rattle.lineage_table.proofs.Prelude.{IsSome, Some, ap, has_access, length, rules, subst, sym, values_of, ℕ, ◌∙◌, ◌≡◌}
 use Rattle.lineage_table.proofs.Knots.{at_now, read_in_place}
 use Rattle.lineage_table.proofs.Writers.{has_stood, stood_committed, stood_there}
 use Rattle.lineage_table.proofs.lineages.Lineage.stand.Goals as goal
-use Rattle.lineage_table.specs.Accesses.{has_access}
-use Rattle.std.proofs.Common.{IsSome, Some, ap, length, rules, subst, sym, ℕ, ◌∙◌, ◌≡◌}
 
 pub knot-k-requires : goal.knot-k-requires
 knot-k-requires c = ap (λ v. has_access c.in-Some.r.0 v.accesses) c.self.view_is ∙ has_stood _ c.args.self.now c.self.inside.writer c.self.view_is c.self.invariant c.in-Some.r c.in-Some.is

@@ -1,12 +1,7 @@
-use Rattle.chain_arena.specs.declared.knots.Knot.{Knot}
+use Rattle.lineage_table.proofs.Prelude.{Access, Knot, LineageState, ap, fold, if◌then◌else◌, is_of, rules, unwrap_or, ◌∙◌, ◌≡◌}
 use Rattle.lineage_table.proofs.Knots.{fold_values}
 use Rattle.lineage_table.proofs.Standing.{passing_stands}
 use Rattle.lineage_table.proofs.lineages.Lineage.stand_without.Goals as goal
-use Rattle.lineage_table.specs.Accesses.{is_of}
-use Rattle.lineage_table.specs.Lineages.{LineageState}
-use Rattle.lineage_table.specs.declared.accesses.Access.{Access}
-use Rattle.std.proofs.Common.{ap, rules, ◌∙◌, ◌≡◌}
-use Rattle.std.specs.Prelude.{fold, if◌then◌else◌, unwrap_or}
 
 pub returns : goal.returns
 returns c =

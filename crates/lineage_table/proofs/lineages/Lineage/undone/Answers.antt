@@ -1,11 +1,8 @@
-use Rattle.chain_arena.specs.Chains.{values_of}
+use Rattle.lineage_table.proofs.Prelude.{Access, IsDisciplined, None, ap, effective_writer, has_access, length, subst, sym, values_of, ◌∙◌}
 use Rattle.lineage_table.proofs.Keeping.{changed_state, nothing_changed, writes}
 use Rattle.lineage_table.proofs.Knots.{at_now, none_placed, read_in_place, set_in_place}
 use Rattle.lineage_table.proofs.Writers.{keeps_undone, not_last}
 use Rattle.lineage_table.proofs.lineages.Lineage.undone.Goals as goal
-use Rattle.lineage_table.specs.Accesses.{IsDisciplined, effective_writer, has_access}
-use Rattle.lineage_table.specs.declared.accesses.Access.{Access}
-use Rattle.std.proofs.Common.{None, ap, length, subst, sym, ◌∙◌}
 
 pub writer_of-self-inside-requires : goal.writer_of-self-inside-requires
 writer_of-self-inside-requires c = λ another.

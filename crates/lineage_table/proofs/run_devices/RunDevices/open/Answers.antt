@@ -1,6 +1,6 @@
 use Rattle.lineage_table.proofs.RunSets.{empty_more}
 use Rattle.lineage_table.proofs.run_devices.RunDevices.open.Goals as goal
-use Rattle.std.proofs.Common.{arith}
+use Rattle.lineage_table.proofs.Prelude.{arith}
 
 pub runs-preserved : goal.runs-preserved
 runs-preserved c = record {

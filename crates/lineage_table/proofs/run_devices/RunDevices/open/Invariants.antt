@@ -1,7 +1,5 @@
-use Rattle.home_types.specs.Limits.{most_runs}
+use Rattle.lineage_table.proofs.Prelude.{false, is_in, length, most_runs, ℕ, ◌+◌, ◌<◌, ◌≡◌, ◌≤◌}
 use Rattle.lineage_table.proofs.run_devices.RunDevices.open.Given as goal
-use Rattle.lineage_table.specs.RunDevices.{is_in}
-use Rattle.std.proofs.Common.{false, length, ℕ, ◌+◌, ◌<◌, ◌≡◌, ◌≤◌}
 
 -- there is an empty set for each number so far
 abbrev pub invariant-runs : goal.invariant-runs

@@ -1,6 +1,6 @@
 use Rattle.lineage_table.proofs.RunSets.{read_there, set_less}
 use Rattle.lineage_table.proofs.run_devices.RunDevices.remove.Goals as goal
-use Rattle.std.proofs.Common.{arith, length, ◌<◌}
+use Rattle.lineage_table.proofs.Prelude.{arith, length, ◌<◌}
 use Rattle.std.specs.FinSet as set
 
 pub returns-then-r-len : goal.returns-then-r-len

@@ -1,11 +1,7 @@
 use Rattle.lineage_table.proofs.tables.Table.acquire.Goals as goal
 use Rattle.lineage_table.proofs.RunAccesses.{change_has}
 use Rattle.lineage_table.proofs.RunSets.{sound_same}
-use Rattle.lineage_table.specs.Accesses.{has_access}
-use Rattle.lineage_table.specs.Lineages.{LineageState}
-use Rattle.lineage_table.specs.declared.accesses.Access.{Access}
-use Rattle.lineage_table.specs.declared.accesses.Status.TheVariants.{Acquired}
-use Rattle.std.proofs.Common.{Some, ap, refl, ◌∙◌}
+use Rattle.lineage_table.proofs.Prelude.{Access, Acquired, LineageState, Some, ap, has_access, refl, ◌∙◌}
 
 pub invariant_of-self : goal.invariant_of-self
 invariant_of-self c =

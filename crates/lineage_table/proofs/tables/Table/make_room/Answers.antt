@@ -1,8 +1,6 @@
 use Rattle.lineage_table.proofs.tables.Table.make_room.Goals as goal
 use Rattle.lineage_table.proofs.RunSets.{accesses_stay, sound_same}
-use Rattle.lineage_table.specs.Accesses.{has_access}
-use Rattle.lineage_table.specs.declared.accesses.Access.{Access}
-use Rattle.std.proofs.Common.{List, ap, refl}
+use Rattle.lineage_table.proofs.Prelude.{Access, List, ap, has_access, refl}
 
 pub invariant_of-self : goal.invariant_of-self
 invariant_of-self c =

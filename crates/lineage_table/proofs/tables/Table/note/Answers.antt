@@ -1,9 +1,7 @@
 use Rattle.lineage_table.proofs.RunAccesses.{answered_has}
 use Rattle.lineage_table.proofs.RunSets.{sound_same}
 use Rattle.lineage_table.proofs.tables.Table.note.Goals as goal
-use Rattle.lineage_table.specs.Accesses.{has_access}
-use Rattle.lineage_table.specs.Lineages.{LineageState}
-use Rattle.std.proofs.Common.{ap, refl, ◌∙◌}
+use Rattle.lineage_table.proofs.Prelude.{LineageState, ap, has_access, refl, ◌∙◌}
 
 pub invariant_of-self : goal.invariant_of-self
 invariant_of-self c =

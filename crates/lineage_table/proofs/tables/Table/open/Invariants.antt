@@ -1,8 +1,6 @@
-use Rattle.command_rules.specs.Rosters.{runs_of}
+use Rattle.lineage_table.proofs.Prelude.{IsNewLineage, length, lineage_at, runs_of, runs_on, ℕ, ◌<◌, ◌≡◌, ◌≤◌}
 use Rattle.home_types.specs.HomeStates.{stand_at}
 use Rattle.lineage_table.proofs.tables.Table.open.Given as goal
-use Rattle.lineage_table.specs.Lineages.{IsNewLineage, lineage_at, runs_on}
-use Rattle.std.proofs.Common.{length, ℕ, ◌<◌, ◌≡◌, ◌≤◌}
 
 abbrev pub invariant-devices : goal.invariant-devices
 invariant-devices l = record {

@@ -1,9 +1,7 @@
 use Rattle.lineage_table.proofs.tables.Table.schedule.Goals as goal
 use Rattle.lineage_table.proofs.RunAccesses.{put_has}
 use Rattle.lineage_table.proofs.RunSets.{sound_more}
-use Rattle.lineage_table.specs.Accesses.{has_access}
-use Rattle.lineage_table.specs.Lineages.{LineageState}
-use Rattle.std.proofs.Common.{ap, ◌∙◌}
+use Rattle.lineage_table.proofs.Prelude.{LineageState, ap, has_access, ◌∙◌}
 
 pub invariant_of-self : goal.invariant_of-self
 invariant_of-self c =

@@ -3,13 +3,9 @@ use Rattle.lineage_table.proofs.RunAccesses.{found_has}
 use Rattle.lineage_table.proofs.RunSets.{lineage_here, none_chosen, one_chosen}
 use Rattle.lineage_table.proofs.tables.Table.search_among.Goals as goal
 use Rattle.lineage_table.proofs.tables.Table.search_among.Goals.{else-is_some, else-is_some-via-else-is_some, else-is_some-via-then-is_some+else-has, then-is_some+then-has}
-use Rattle.lineage_table.specs.Accesses.{has_access}
-use Rattle.lineage_table.specs.Lineages.{LineageState, accesses_at, lineage_at}
-use Rattle.std.proofs.Common.{ap, arith, ap₂, false, length, refl, rules, sym, true, ◌<◌, ◌∙◌, ◌≡◌}
-use Rattle.std.proofs.lemmas.Grind.{common_steps}
+use Rattle.lineage_table.proofs.Prelude.{LineageState, accesses_at, ap, ap₂, arith, common_steps, false, has_access, is_some, length, lineage_at, nat_lt, refl, rules, sym, true, ℕ, ◌&&◌, ◌<◌, ◌==◌, ◌||◌, ◌∙◌, ◌≡◌}
 use Rattle.std.specs.FinSet as set
 use Rattle.std.specs.Ordering.{nat_cmp}
-use Rattle.std.specs.Prelude.{is_some, nat_lt, ℕ, ◌&&◌, ◌==◌, ◌||◌}
 
 pub devices-init : goal.devices-init
 devices-init c = (

@@ -1,9 +1,6 @@
 use Rattle.lineage_table.proofs.tables.Table.search_among.Given as goal
-use Rattle.lineage_table.specs.Accesses.{has_access}
-use Rattle.lineage_table.specs.Lineages.{accesses_at}
-use Rattle.std.proofs.Common.{length, ℕ, ◌≡◌}
+use Rattle.lineage_table.proofs.Prelude.{accesses_at, has_access, length, nat_lt, ℕ, ◌&&◌, ◌≡◌}
 use Rattle.std.specs.FinSet as set
-use Rattle.std.specs.Prelude.{nat_lt, ◌&&◌}
 
 -- of the devices so far those are found that are looked for
 abbrev pub invariant-devices : goal.invariant-devices

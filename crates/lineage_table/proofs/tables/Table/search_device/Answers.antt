@@ -1,10 +1,7 @@
 use Rattle.lineage_table.proofs.RunAccesses.{found_has}
 use Rattle.lineage_table.proofs.RunSets.{lineage_here, none_next}
 use Rattle.lineage_table.proofs.tables.Table.search_device.Goals as goal
-use Rattle.lineage_table.specs.Accesses.{has_access}
-use Rattle.lineage_table.specs.Lineages.{LineageState, accesses_at, lineage_at}
-use Rattle.std.proofs.Common.{ap, arith, false, length, rules, sym, true, ◌<◌, ◌∙◌, ◌≡◌}
-use Rattle.std.specs.Prelude.{is_some}
+use Rattle.lineage_table.proofs.Prelude.{LineageState, accesses_at, ap, arith, false, has_access, is_some, length, lineage_at, rules, sym, true, ◌<◌, ◌∙◌, ◌≡◌}
 
 pub returns-then-is_some : goal.returns-then-is_some
 returns-then-is_some c =

@@ -1,7 +1,5 @@
 use Rattle.lineage_table.proofs.tables.Table.search_device.Given as goal
-use Rattle.lineage_table.specs.Accesses.{has_access}
-use Rattle.lineage_table.specs.Lineages.{accesses_at}
-use Rattle.std.proofs.Common.{false, length, ℕ, ◌<◌, ◌≡◌, ◌≤◌}
+use Rattle.lineage_table.proofs.Prelude.{accesses_at, false, has_access, length, ℕ, ◌<◌, ◌≡◌, ◌≤◌}
 
 -- the run has no access to a device so far
 abbrev pub invariant-devices : goal.invariant-devices

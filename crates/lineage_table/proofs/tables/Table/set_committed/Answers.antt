@@ -1,8 +1,6 @@
 use Rattle.lineage_table.proofs.tables.Table.set_committed.Goals as goal
 use Rattle.lineage_table.proofs.RunSets.{sound_same}
-use Rattle.lineage_table.specs.Accesses.{has_access}
-use Rattle.lineage_table.specs.Lineages.{LineageState}
-use Rattle.std.proofs.Common.{ap, refl}
+use Rattle.lineage_table.proofs.Prelude.{LineageState, ap, has_access, refl}
 
 pub invariant_of-self : goal.invariant_of-self
 invariant_of-self c =

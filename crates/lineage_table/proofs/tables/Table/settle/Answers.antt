@@ -2,11 +2,7 @@ use Rattle.lineage_table.proofs.Keeping.{found_by_value}
 use Rattle.lineage_table.proofs.RunAccesses.{behind_has}
 use Rattle.lineage_table.proofs.RunSets.{lineage_here, sound_less}
 use Rattle.lineage_table.proofs.tables.Table.settle.Goals as goal
-use Rattle.lineage_table.specs.Accesses.{IsDisciplined, accesses_before, has_access, written_by}
-use Rattle.lineage_table.specs.Lineages.{LineageState, lineage_at, settled}
-use Rattle.lineage_table.specs.RunDevices.{HasLess}
-use Rattle.std.proofs.Common.{IsSome, IsTrue, ap, subst, sym, ◌∙◌, ◌≡◌}
-use Rattle.std.specs.Prelude.{◌==◌, ◌||◌}
+use Rattle.lineage_table.proofs.Prelude.{HasLess, IsDisciplined, IsSome, IsTrue, LineageState, accesses_before, ap, has_access, lineage_at, settled, subst, sym, written_by, ◌==◌, ◌||◌, ◌∙◌, ◌≡◌}
 
 pub take_out_through-requires-clause-access : goal.take_out_through-requires-clause-access
 take_out_through-requires-clause-access c =

@@ -1,10 +1,7 @@
 use Rattle.live_scripts.proofs.GrowthSound.{run_or_same}
 use Rattle.live_scripts.proofs.Refusing.{few_and_earlier, free_in_last, known_routine, room_in_last}
 use Rattle.live_scripts.proofs.scripts.LiveScript.add_run.Goals as goal
-use Rattle.live_scripts.specs.Growth.{HasRoomForRun, first_against_run}
-use Rattle.routine_reader.specs.declared.scripts.Script.{Script}
-use Rattle.std.proofs.Common.{rules, subst, sym, ◌≡◌}
-use Rattle.std.specs.Prelude.{None, ◌++◌, ◌∷◌, []}
+use Rattle.live_scripts.proofs.Prelude.{HasRoomForRun, None, Script, [], first_against_run, rules, subst, sym, ◌++◌, ◌∷◌, ◌≡◌}
 
 pub invariant_of-self : goal.invariant_of-self
 invariant_of-self c =

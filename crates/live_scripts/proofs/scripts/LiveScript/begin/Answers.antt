@@ -1,8 +1,6 @@
 use Rattle.live_scripts.proofs.GrowthSound.{begun_anew_shown, begun_if_shown, more_or_same}
 use Rattle.live_scripts.proofs.scripts.LiveScript.begin.Goals as goal
-use Rattle.live_scripts.specs.Growth.{IsNewWindow, is_later_after}
-use Rattle.std.proofs.Common.{refl, rules, ◌≡◌}
-use Rattle.std.specs.Prelude.{[], length, slice_get, true, ◌-◌, ◌<◌, ◌∷◌, ◌≤◌}
+use Rattle.live_scripts.proofs.Prelude.{IsNewWindow, [], is_later_after, length, refl, rules, slice_get, true, ◌-◌, ◌<◌, ◌∷◌, ◌≡◌, ◌≤◌}
 
 pub invariant_of-self : goal.invariant_of-self
 invariant_of-self c =

@@ -1,10 +1,7 @@
 use Rattle.order_checker.proofs.Passing.{run-missing, run-stands}
 use Rattle.order_checker.proofs.Walking.{walk-end}
 use Rattle.order_checker.proofs.order_lines.OrderReader.all_stand.Goals as goal
-use Rattle.order_checker.specs.Ends.{plain_ends}
-use Rattle.order_checker.specs.OrderLines.{next_stands}
-use Rattle.std.proofs.Common.{Ok, ap, arith, sym, ◌∙◌}
-use Rattle.std.proofs.lemmas.List.{length-map}
+use Rattle.order_checker.proofs.Prelude.{Ok, ap, arith, length-map, next_stands, plain_ends, sym, ◌∙◌}
 
 pub returns-then-not-stands_if_committed : goal.returns-then-not-stands_if_committed
 returns-then-not-stands_if_committed c =

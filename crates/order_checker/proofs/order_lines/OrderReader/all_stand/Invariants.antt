@@ -1,8 +1,5 @@
 use Rattle.order_checker.proofs.order_lines.OrderReader.all_stand.Given as goal
-use Rattle.order_checker.specs.Ends.{plain_ends}
-use Rattle.order_checker.specs.OrderLines.{next_stands}
-use Rattle.order_checker.specs.Steps.{walk}
-use Rattle.std.proofs.Common.{drop, ◌≡◌}
+use Rattle.order_checker.proofs.Prelude.{drop, next_stands, plain_ends, walk, ◌≡◌}
 
 -- the committed runs so far stand among the items
 abbrev pub invariant-ends : goal.invariant-ends

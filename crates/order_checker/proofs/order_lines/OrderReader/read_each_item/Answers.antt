@@ -2,14 +2,8 @@ use Rattle.order_checker.proofs.Passing.{item-passed, item-refused}
 use Rattle.order_checker.proofs.Events.{length-event}
 use Rattle.order_checker.proofs.Walking.{walk-end}
 use Rattle.order_checker.proofs.order_lines.OrderReader.read_each_item.Goals as goal
-use Rattle.order_checker.specs.OrderLines.{home_with_event, next_item}
-use Rattle.order_checker.specs.Readers.{setting_for_order}
-use Rattle.order_checker.specs.Steps.{walk}
-use Rattle.order_checker.specs.Words.{texts}
+use Rattle.order_checker.proofs.Prelude.{Err, [], ap, arith, drop, fold, fold-append, home_with_event, length, length-append, length-map, next_item, setting_for_order, sym, texts, walk, ◌+◌, ◌∙◌, ◌∷◌}
 use Rattle.serial_meaning.specs.Conditions.{IsItemOf}
-use Rattle.std.proofs.Common.{Err, [], ap, arith, drop, fold, length, length-append, sym, ◌+◌, ◌∙◌, ◌∷◌}
-use Rattle.std.proofs.lemmas.List.{length-map}
-use Rattle.std.proofs.lemmas.List.Sums.{fold-append}
 use Rattle.std.proofs.lemmas.List.Elements.{All-append, All-cons, All-nil}
 
 pub returns-in_default-clause-items : goal.returns-in_default-clause-items

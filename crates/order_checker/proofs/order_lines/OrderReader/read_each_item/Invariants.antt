@@ -1,11 +1,6 @@
 use Rattle.order_checker.proofs.order_lines.OrderReader.read_each_item.Given as goal
-use Rattle.order_checker.specs.OrderLines.{home_with_event, next_item}
-use Rattle.order_checker.specs.Readers.{setting_for_order}
-use Rattle.order_checker.specs.Steps.{walk}
-use Rattle.order_checker.specs.Words.{texts}
+use Rattle.order_checker.proofs.Prelude.{All, [], drop, fold, home_with_event, length, next_item, setting_for_order, texts, walk, ◌≡◌}
 use Rattle.serial_meaning.specs.Conditions.{IsItemOf}
-use Rattle.std.proofs.Common.{[], drop, fold, length, ◌≡◌}
-use Rattle.std.specs.Prelude.{All}
 
 -- the items so far
 abbrev pub invariant-words : goal.invariant-words

@@ -1,10 +1,7 @@
 use Rattle.routine_reader.proofs.NameLemmas.{any-map}
 use Rattle.routine_reader.proofs.names.Names.add.Goals as goal
 use Rattle.routine_reader.proofs.names.Names.add.Goals.{in-Err, in-Ok}
-use Rattle.std.proofs.Common.{[], ap, false, if◌then◌else◌, map, sym, ◌++◌, ◌≡◌, ◌∙◌, ◌∷◌}
-use Rattle.std.proofs.lemmas.List.{map-append}
-use Rattle.std.specs.List.{list_any}
-use Rattle.std.specs.Str.{bytes_eq}
+use Rattle.routine_reader.proofs.Prelude.{[], ap, bytes_eq, false, if◌then◌else◌, list_any, map, map-append, sym, ◌++◌, ◌∙◌, ◌∷◌, ◌≡◌}
 
 pub returns : goal.returns
 returns c =

@@ -1,8 +1,6 @@
 use Rattle.routine_reader.proofs.NameLemmas.{any-map}
 use Rattle.routine_reader.proofs.names.Names.has.Goals as goal
-use Rattle.std.proofs.Common.{ap, sym, ◌∙◌}
-use Rattle.std.specs.List.{list_any}
-use Rattle.std.specs.Str.{bytes_eq}
+use Rattle.routine_reader.proofs.Prelude.{ap, bytes_eq, list_any, sym, ◌∙◌}
 
 pub returns : goal.returns
 returns c =

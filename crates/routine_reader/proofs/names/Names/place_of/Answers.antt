@@ -1,8 +1,6 @@
 use Rattle.routine_reader.proofs.NameLemmas.{position-map}
 use Rattle.routine_reader.proofs.names.Names.place_of.Goals as goal
-use Rattle.std.proofs.Common.{ap, sym, ◌∙◌}
-use Rattle.std.specs.List.{position}
-use Rattle.std.specs.Str.{bytes_eq}
+use Rattle.routine_reader.proofs.Prelude.{ap, bytes_eq, position, sym, ◌∙◌}
 
 pub returns-clause-place : goal.returns-clause-place
 returns-clause-place c =

@@ -1,10 +1,7 @@
-use Rattle.hub_core.specs.HubCalls.{grip_takes}
-use Rattle.window_devices.specs.KnownDevices.{grip_in, progress_at}
+use Rattle.run_replay.proofs.Prelude.{ap, grip_in, grip_takes, progress_at, refl, slice_get, slice_set, subst, sym, ◌+◌, ◌<◌, ◌^◌, ◌∙◌}
 use Rattle.run_replay.proofs.Acting.{done_of, full_now, given_keeps, hand_never, not_refused_now}
 use Rattle.run_replay.proofs.PlayerSteps.{given_steps, steps_now}
 use Rattle.run_replay.proofs.hands.Hands.act.Goals as goal
-use Rattle.std.proofs.Common.{ap, refl, subst, sym, ◌∙◌}
-use Rattle.std.specs.Prelude.{slice_get, slice_set, ◌+◌, ◌<◌, ◌^◌}
 
 pub unreachable-requires : goal.unreachable-requires
 unreachable-requires g c =

@@ -1,8 +1,6 @@
 use Rattle.run_replay.proofs.EmptyHands.{front_hands, hands_at_close, last_hand}
-use Rattle.run_replay.specs.Players.{HoldNothing}
+use Rattle.run_replay.proofs.Prelude.{HoldNothing, [], ap, subst, ◌++◌, ◌∙◌, ◌∷◌}
 use Rattle.run_replay.proofs.hands.Hands.close.Goals as goal
-use Rattle.std.proofs.Common.{ap, subst, ◌∙◌}
-use Rattle.std.specs.Prelude.{[], ◌∷◌, ◌++◌}
 
 -- the window closed, so every device is home
 pub hands-init : goal.hands-init

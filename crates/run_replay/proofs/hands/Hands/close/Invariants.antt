@@ -1,6 +1,5 @@
-use Rattle.run_replay.specs.Players.{HoldNothing}
+use Rattle.run_replay.proofs.Prelude.{HoldNothing, vec_len}
 use Rattle.run_replay.proofs.hands.Hands.close.Given as goal
-use Rattle.std.specs.Prelude.{vec_len}
 
 -- the hands that are left hold nothing
 abbrev pub invariant-hands : goal.invariant-hands

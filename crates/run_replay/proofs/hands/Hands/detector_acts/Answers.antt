@@ -2,8 +2,7 @@ use Rattle.run_replay.proofs.Acting.{full_now, hand_never}
 use Rattle.run_replay.proofs.PlayerSteps.{steps_now}
 use Rattle.run_replay.proofs.Probing.{back_keeps, back_steps, holds, probe_not_refused}
 use Rattle.run_replay.proofs.hands.Hands.detector_acts.Goals as goal
-use Rattle.std.proofs.Common.{ap, refl, sym, ◌∙◌}
-use Rattle.std.specs.Prelude.{slice_set}
+use Rattle.run_replay.proofs.Prelude.{ap, refl, slice_set, sym, ◌∙◌}
 
 pub unreachable-requires : goal.unreachable-requires
 unreachable-requires g c =

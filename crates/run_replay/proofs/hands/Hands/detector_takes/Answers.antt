@@ -1,8 +1,7 @@
 use Rattle.run_replay.proofs.PlayerSteps.{steps_now}
 use Rattle.run_replay.proofs.Probing.{passed_keeps, passed_steps, probed_keeps, probed_steps, rests}
 use Rattle.run_replay.proofs.hands.Hands.detector_takes.Goals as goal
-use Rattle.std.proofs.Common.{ap, refl}
-use Rattle.std.specs.Prelude.{slice_set, ◌%◌}
+use Rattle.run_replay.proofs.Prelude.{ap, refl, slice_set, ◌%◌}
 
 pub invariant_of-self : goal.invariant_of-self
 invariant_of-self g c =

@@ -1,6 +1,5 @@
 use Rattle.run_replay.proofs.hands.Hands.kept_invariant.Goals as goal
-use Rattle.run_replay.specs.Players.{PlayerStands}
-use Rattle.std.proofs.Common.{subst}
+use Rattle.run_replay.proofs.Prelude.{PlayerStands, subst}
 
 pub returns-clause-player : goal.returns-clause-player
 returns-clause-player g c = subst PlayerStands c.self.view_is (record {

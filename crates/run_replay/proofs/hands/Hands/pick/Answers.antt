@@ -1,7 +1,7 @@
 use Rattle.run_replay.proofs.Counted.{few_after, moves_low}
 use Rattle.run_replay.proofs.PlayerSteps.{counted_picks, passed_picks}
 use Rattle.run_replay.proofs.hands.Hands.pick.Goals as goal
-use Rattle.std.proofs.Common.{sym, ◌∙◌}
+use Rattle.run_replay.proofs.Prelude.{sym, ◌∙◌}
 
 pub returns-then-has_ended-clause-picked : goal.returns-then-has_ended-clause-picked
 returns-then-has_ended-clause-picked g c =

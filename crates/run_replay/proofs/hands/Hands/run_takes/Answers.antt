@@ -1,10 +1,7 @@
 use Rattle.run_replay.proofs.PlayerSteps.{made_steps, steps_now, waited_steps, went_steps}
 use Rattle.run_replay.proofs.Taking.{IsFree, answered_keeps, answers_now, goes_now, hand_is_empty, never_absent, went_keeps}
 use Rattle.run_replay.proofs.hands.Hands.run_takes.Goals as goal
-use Rattle.run_replay.specs.Players.{PlayerIsKept, PlayerState, is_ended, is_full}
-use Rattle.std.proofs.Common.{None, ap, refl, subst, sym, ◌∙◌}
-use Rattle.std.proofs.lemmas.Option.{get_or_from_slice_get}
-use Rattle.std.specs.Prelude.{false, slice_set, ℕ, ◌<◌, ◌≡◌}
+use Rattle.run_replay.proofs.Prelude.{None, PlayerIsKept, PlayerState, ap, false, get_or_from_slice_get, is_ended, is_full, refl, slice_set, subst, sym, ℕ, ◌<◌, ◌∙◌, ◌≡◌}
 
 -- the run is free, in the player as it was
 free_of : {D : Type 0} (now s : PlayerState D) (r : ℕ) → s ≡ now → PlayerIsKept s → 0 < r → is_ended now r ≡ false → is_full now r ≡ false → IsFree s r

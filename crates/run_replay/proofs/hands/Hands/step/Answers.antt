@@ -1,6 +1,5 @@
 use Rattle.run_replay.proofs.hands.Hands.step.Goals as goal
-use Rattle.run_replay.specs.PlayerSteps.{PlayerSteps}
-use Rattle.std.proofs.Common.{subst, sym}
+use Rattle.run_replay.proofs.Prelude.{PlayerSteps, subst, sym}
 
 pub returns-then-actor-eq0 : goal.returns-then-actor-eq0
 returns-then-actor-eq0 g c =

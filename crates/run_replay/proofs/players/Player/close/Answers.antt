@@ -1,6 +1,5 @@
 use Rattle.run_replay.proofs.players.Player.close.Goals as goal
-use Rattle.run_replay.specs.Players.{AreLiveRuns, MovesAreFew, PlayerState, are_live}
-use Rattle.std.proofs.Common.{subst, sym, ◌≡◌}
+use Rattle.run_replay.proofs.Prelude.{AreLiveRuns, MovesAreFew, PlayerState, are_live, subst, sym, ◌≡◌}
 
 -- the hands come back as they were
 pub invariant_of-result : goal.invariant_of-result

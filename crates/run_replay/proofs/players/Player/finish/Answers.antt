@@ -1,7 +1,7 @@
 use Rattle.run_replay.proofs.Finishing.{draws_on, ends, starts}
 use Rattle.run_replay.proofs.PlayerSteps.{stays_here, stays_on}
 use Rattle.run_replay.proofs.players.Player.finish.Goals as goal
-use Rattle.std.proofs.Common.{arith}
+use Rattle.run_replay.proofs.Prelude.{arith}
 
 pub draws-init : goal.draws-init
 draws-init g c = (starts c.args.self.now c.args.seed c.new-draws.result c.live_count-live.result c.kept_invariant.ensures.player c.new-draws.ensures c.live_count-live.ensures, stays_here g.D.Device.shows c.args.self.now)

@@ -1,7 +1,6 @@
 use Rattle.run_replay.proofs.Finishing.{HaveDrawn}
 use Rattle.run_replay.proofs.players.Player.finish.Given as goal
-use Rattle.run_replay.specs.PlayerSteps.{PlayerStays}
-use Rattle.run_replay.specs.Players.{steps_left}
+use Rattle.run_replay.proofs.Prelude.{PlayerStays, steps_left}
 
 abbrev pub decreases-draws : goal.decreases-draws
 decreases-draws g l = steps_left l.self

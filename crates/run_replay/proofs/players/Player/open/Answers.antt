@@ -3,12 +3,7 @@ use Rattle.run_replay.proofs.Counting.{none_passes, one_passes}
 use Rattle.run_replay.proofs.LiveRuns.{AreLiveBelow, all_live, none_below, one_has_ended, one_lives}
 use Rattle.run_replay.proofs.players.Player.open.Goals as goal
 use Rattle.run_replay.proofs.players.Player.open.Goals.{else-not-has_ended, then-not-has_ended}
-use Rattle.run_replay.specs.Players.{is_ended}
-use Rattle.run_replay.specs.Replays.{Play}
-use Rattle.hub_core.specs.OpenHubs.{OpenHub}
-use Rattle.std.proofs.Common.{ap, arith, refl, rules, subst, sym, ◌∙◌}
-use Rattle.std.specs.List.{range_with_len}
-use Rattle.std.specs.Prelude.{filter, length, not, vec_capacity, vec_len, ◌+◌, ◌≡◌}
+use Rattle.run_replay.proofs.Prelude.{OpenHub, Play, ap, arith, filter, is_ended, length, not, range_with_len, refl, rules, subst, sym, vec_capacity, vec_len, ◌+◌, ◌∙◌, ◌≡◌}
 
 pub push_reserved-requires : goal.push_reserved-requires
 push_reserved-requires g c = omega (arith, c.actors.invariant.1, c.actors.invariant.2, c.actors-test.true)

@@ -1,8 +1,6 @@
 use Rattle.run_replay.proofs.LiveRuns.{AreLiveBelow}
 use Rattle.run_replay.proofs.players.Player.open.Given as goal
-use Rattle.run_replay.specs.Players.{is_ended}
-use Rattle.std.specs.List.{range_with_len}
-use Rattle.std.specs.Prelude.{filter, not, vec_capacity, vec_len, ◌≡◌, ◌≤◌}
+use Rattle.run_replay.proofs.Prelude.{filter, is_ended, not, range_with_len, vec_capacity, vec_len, ◌≡◌, ◌≤◌}
 
 -- the actors up to here that have not ended
 abbrev pub invariant-actors : goal.invariant-actors

@@ -2,8 +2,7 @@ use Rattle.run_replay.proofs.Leaving.{kept_in, taken_out}
 use Rattle.run_replay.proofs.LiveRuns.{run_leaves, runs_stay}
 use Rattle.run_replay.proofs.PlayerSteps.{picks_now}
 use Rattle.run_replay.proofs.players.Player.pick.Goals as goal
-use Rattle.run_replay.specs.Players.{is_ended}
-use Rattle.std.proofs.Common.{Bool, false, refl, sym, true, ◌≡◌, ◌∙◌}
+use Rattle.run_replay.proofs.Prelude.{Bool, false, is_ended, refl, sym, true, ◌∙◌, ◌≡◌}
 
 pub invariant_of-self : goal.invariant_of-self
 invariant_of-self g c = (

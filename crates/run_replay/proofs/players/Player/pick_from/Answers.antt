@@ -1,10 +1,7 @@
 use Rattle.run_replay.proofs.Numbers.{begins, few_actors, first_low, low_at, moves_fewer, never_through, number_moves, number_waits, numbers_passed, those, turns}
 use Rattle.run_replay.proofs.PlayerSteps.{stays_here, stays_on}
 use Rattle.run_replay.proofs.players.Player.pick_from.Goals as goal
-use Rattle.run_replay.specs.Players.{are_live}
-use Rattle.run_replay.specs.Replays.{from_place}
-use Rattle.std.proofs.Common.{arith, ◌∙◌}
-use Rattle.std.specs.Prelude.{[], length, ◌+◌}
+use Rattle.run_replay.proofs.Prelude.{[], are_live, arith, from_place, length, ◌+◌, ◌∙◌}
 
 pub next_free-at-requires : goal.next_free-at-requires
 next_free-at-requires g c = record { low = first_low c.args.self.now c.args.place c.live_at-first.result c.kept_invariant.ensures.player c.live_at-first.ensures }

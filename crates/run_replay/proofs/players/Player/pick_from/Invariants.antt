@@ -1,9 +1,6 @@
 use Rattle.run_replay.proofs.Numbers.{HaveTried, those}
 use Rattle.run_replay.proofs.players.Player.pick_from.Given as goal
-use Rattle.run_replay.specs.PlayerSteps.{PlayerStays}
-use Rattle.run_replay.specs.Players.{are_live, is_ended}
-use Rattle.run_replay.specs.Replays.{from_place}
-use Rattle.std.specs.Prelude.{[], false, length, ◌++◌, ◌-◌, ◌<◌, ◌≡◌}
+use Rattle.run_replay.proofs.Prelude.{PlayerStays, [], are_live, false, from_place, is_ended, length, ◌++◌, ◌-◌, ◌<◌, ◌≡◌}
 
 abbrev pub decreases-ahead : goal.decreases-ahead
 decreases-ahead g l = 65 - l.at

@@ -3,7 +3,7 @@ use Rattle.run_replay.proofs.Played.{played_next, played_whole}
 use Rattle.run_replay.proofs.PlayerSteps.{stays_here, stays_on}
 use Rattle.run_replay.proofs.Tellings.{stays}
 use Rattle.run_replay.proofs.players.Player.play.Goals as goal
-use Rattle.std.proofs.Common.{arith, refl}
+use Rattle.run_replay.proofs.Prelude.{arith, refl}
 
 pub picks-init : goal.picks-init
 picks-init g c = ((λ acts. (acts, stays _ _ _ (λ course. refl))), stays_here g.D.Device.shows c.args.self.now)

@@ -1,9 +1,5 @@
 use Rattle.run_replay.proofs.players.Player.play.Given as goal
-use Rattle.run_replay.specs.PlayerSteps.{PlayerStays}
-use Rattle.run_replay.specs.Players.{play_of}
-use Rattle.run_replay.specs.Playing.{ArePicked}
-use Rattle.std.proofs.Common.{ℕ}
-use Rattle.std.specs.Prelude.{take}
+use Rattle.run_replay.proofs.Prelude.{ArePicked, PlayerStays, play_of, take, ℕ}
 
 abbrev pub invariant-picks : goal.invariant-picks
 invariant-picks g l =

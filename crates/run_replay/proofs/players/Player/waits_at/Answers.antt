@@ -1,5 +1,5 @@
 use Rattle.run_replay.proofs.players.Player.waits_at.Goals as goal
-use Rattle.std.proofs.Common.{sym, ◌∙◌}
+use Rattle.run_replay.proofs.Prelude.{sym, ◌∙◌}
 
 pub returns-clause-picked : goal.returns-clause-picked
 returns-clause-picked g c = record { picked = c.pick-picked.result; waits_so = sym c.has_waited.ensures; picks = c.pick-picked.ensures.picks }

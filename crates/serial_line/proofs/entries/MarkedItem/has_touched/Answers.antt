@@ -1,4 +1,4 @@
-use Rattle.home_types.proofs.Cited.{contains_one}
+use Rattle.serial_line.proofs.Prelude.{contains_one}
 use Rattle.serial_line.proofs.entries.MarkedItem.has_touched.Goals as goal
 
 pub returns-in-Failed : goal.returns-in-Failed

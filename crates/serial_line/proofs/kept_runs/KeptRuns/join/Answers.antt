@@ -1,8 +1,6 @@
-use Rattle.command_rules.specs.Rosters.{plain_run}
+use Rattle.serial_line.proofs.Prelude.{AreKeptOf, plain_run, subst, sym}
 use Rattle.serial_line.proofs.KeptRuns.{kept_more}
 use Rattle.serial_line.proofs.kept_runs.KeptRuns.join.Goals as goal
-use Rattle.serial_line.specs.KeptRuns.{AreKeptOf}
-use Rattle.std.proofs.Common.{subst, sym}
 
 pub returns : goal.returns
 returns c = λ runs are.

@@ -1,13 +1,8 @@
-use Rattle.command_rules.proofs.Cited.{commands_at, leader_at}
-use Rattle.command_rules.specs.Rosters.{is_on, plain_run, runs_of}
+use Rattle.serial_line.proofs.Prelude.{List, ap, arith, commands_at, is_on, leader_at, length, length-map, list_any, plain_run, runs_of, slice_get, subst, suc, sym, ◌∙◌, ◌≡◌}
 use Rattle.home_types.specs.declared.commands.Command.{Command}
 use Rattle.serial_line.proofs.KeptRuns.{AreFirstKept, all_kept, one_kept, room_stays}
 use Rattle.serial_line.proofs.kept_runs.KeptRuns.of.Goals as goal
-use Rattle.std.proofs.Common.{ap, arith, length, subst, suc, sym, ◌∙◌, ◌≡◌}
-use Rattle.std.proofs.lemmas.List.{length-map}
-use Rattle.std.specs.List.{list_any}
 use Rattle.std.specs.Option.{option_copied}
-use Rattle.std.specs.Prelude.{List, slice_get}
 
 pub kept_of-requires : goal.kept_of-requires
 kept_of-requires c = λ k e there.

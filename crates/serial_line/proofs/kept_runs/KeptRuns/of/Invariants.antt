@@ -1,8 +1,6 @@
-use Rattle.command_rules.specs.Rosters.{runs_of}
+use Rattle.serial_line.proofs.Prelude.{HasRoomForRuns, length, runs_of, ◌≡◌}
 use Rattle.serial_line.proofs.KeptRuns.{AreFirstKept}
 use Rattle.serial_line.proofs.kept_runs.KeptRuns.of.Given as goal
-use Rattle.serial_line.specs.KeptRuns.{HasRoomForRuns}
-use Rattle.std.specs.Prelude.{length, ◌≡◌}
 
 -- the runs up to here are kept, and there is room
 abbrev pub invariant-runs : goal.invariant-runs

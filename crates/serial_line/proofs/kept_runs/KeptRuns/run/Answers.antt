@@ -1,10 +1,6 @@
 use Rattle.serial_line.proofs.KeptRuns.{run_kept}
 use Rattle.serial_line.proofs.kept_runs.KeptRuns.run.Goals as goal
-use Rattle.serial_line.specs.KeptRuns.{kept_run}
-use Rattle.command_rules.specs.Rosters.{run_in_roster}
-use Rattle.std.proofs.Common.{ap, arith, ◌∙◌, ◌≢◌}
-use Rattle.std.proofs.lemmas.Grind.{common_steps}
-use Rattle.std.specs.Prelude.{option_map}
+use Rattle.serial_line.proofs.Prelude.{ap, arith, common_steps, kept_run, option_map, run_in_roster, ◌∙◌, ◌≢◌}
 
 pub returns : goal.returns
 returns c =

@@ -1,8 +1,6 @@
 use Rattle.serial_line.proofs.KeptRuns.{shares_kept}
 use Rattle.serial_line.proofs.kept_runs.KeptRuns.share.Goals as goal
-use Rattle.serial_line.specs.KeptRuns.{kept_run}
-use Rattle.std.proofs.Common.{ap, sym, ◌∙◌}
-use Rattle.std.specs.Prelude.{option_copied, option_map}
+use Rattle.serial_line.proofs.Prelude.{ap, kept_run, option_copied, option_map, sym, ◌∙◌}
 
 pub returns-in-Some : goal.returns-in-Some
 returns-in-Some c =

@@ -1,11 +1,7 @@
-use Rattle.command_rules.proofs.Cited.{may_exchange, moved, pass_there, starts}
-use Rattle.command_rules.specs.Apart.{meet}
-use Rattle.command_rules.specs.ClosedSets.{Exchanged, Stays, are_apart}
+use Rattle.serial_line.proofs.Prelude.{Exchanged, Stays, ap, are_apart, arith, items_of, length, may_exchange, meet, meet_marks, moved, pass_there, refl, starts, subst, sym, ◌-◌, ◌<◌, ◌∙◌, ◌≡◌, ◌≤◌}
 use Rattle.serial_line.proofs.Exchanged.{one_more}
 use Rattle.serial_line.proofs.Neighbours.{apart_items}
 use Rattle.serial_line.proofs.lines.Line.bring.Goals as goal
-use Rattle.serial_line.specs.Marks.{items_of, meet_marks}
-use Rattle.std.proofs.Common.{ap, arith, length, refl, subst, sym, ◌-◌, ◌<◌, ◌∙◌, ◌≡◌, ◌≤◌}
 
 pub past-init : goal.past-init
 past-init c = (c.requires.order, omega arith, starts c.args.self.now.marks c.args.from, refl, refl, refl, refl, Stays)

@@ -1,7 +1,5 @@
-use Rattle.command_rules.specs.ClosedSets.{Exchanged, brought}
+use Rattle.serial_line.proofs.Prelude.{Exchanged, brought, drop, meet_marks, take, ◌++◌, ◌-◌, ◌≡◌, ◌≤◌}
 use Rattle.serial_line.proofs.lines.Line.bring.Given as goal
-use Rattle.serial_line.specs.Marks.{meet_marks}
-use Rattle.std.proofs.Common.{drop, take, ◌++◌, ◌-◌, ◌≡◌, ◌≤◌}
 
 -- the item is brought up to the place, and all else is as it was
 abbrev pub invariant-past : goal.invariant-past

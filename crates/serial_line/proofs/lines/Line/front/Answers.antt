@@ -1,6 +1,6 @@
 use Rattle.serial_line.proofs.Fronts.{front_within}
 use Rattle.serial_line.proofs.lines.Line.front.Goals as goal
-use Rattle.std.proofs.Common.{ap, arith, length}
+use Rattle.serial_line.proofs.Prelude.{ap, arith, length}
 
 pub returns-clause-within : goal.returns-clause-within
 returns-clause-within c =

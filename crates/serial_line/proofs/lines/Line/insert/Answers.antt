@@ -2,9 +2,7 @@ use Rattle.serial_line.proofs.Fronts.{front_inserted}
 use Rattle.serial_line.proofs.Once.{differ_insert}
 use Rattle.serial_line.proofs.RunPlaces.{before_inserted}
 use Rattle.serial_line.proofs.lines.Line.insert.Goals as goal
-use Rattle.serial_line.specs.Marks.{all_differ, front_of, items_of, stands, untouched, with_item}
-use Rattle.serial_line.specs.RunPlaces.{ArePlacesBefore, AreRunPlaces}
-use Rattle.std.proofs.Common.{ap, arith, rules, subst, sym, ◌∙◌, ◌≡◌}
+use Rattle.serial_line.proofs.Prelude.{ArePlacesBefore, AreRunPlaces, all_differ, ap, arith, front_of, items_of, rules, stands, subst, sym, untouched, with_item, ◌∙◌, ◌≡◌}
 
 -- what the call sees is the line with the item
 pub tell_places-requires-clause-once : goal.tell_places-requires-clause-once

@@ -1,7 +1,5 @@
-use Rattle.command_rules.proofs.Cited.{last_before}
+use Rattle.serial_line.proofs.Prelude.{ap, last_before, meets, sym, ◌∙◌}
 use Rattle.serial_line.proofs.lines.Line.last_meeting.Goals as goal
-use Rattle.serial_line.specs.Marks.{meets}
-use Rattle.std.proofs.Common.{ap, sym, ◌∙◌}
 
 pub returns-then-meets : goal.returns-then-meets
 returns-then-meets c =

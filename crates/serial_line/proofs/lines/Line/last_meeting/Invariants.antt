@@ -1,6 +1,5 @@
 use Rattle.serial_line.proofs.lines.Line.last_meeting.Given as goal
-use Rattle.serial_line.specs.Marks.{last_meeting}
-use Rattle.std.proofs.Common.{None, drop, length, ◌≡◌, ◌≤◌}
+use Rattle.serial_line.proofs.Prelude.{None, drop, last_meeting, length, ◌≡◌, ◌≤◌}
 
 -- nothing from the place on is what is looked for
 abbrev pub invariant-loop-at : goal.invariant-loop-at

@@ -1,10 +1,8 @@
-use Rattle.home_types.specs.declared.items.Item.TheVariants.{Ran}
+use Rattle.serial_line.proofs.Prelude.{Ran, ap, false, is_open_run, place_of, rules, stands, sym, touching, ◌∙◌, ◌≡◌}
 use Rattle.serial_line.proofs.Once.{differ_changed, old_told, place_told, same_items, change_told, untold_stands}
 use Rattle.serial_line.proofs.Fronts.{front_stays, stays_open}
 use Rattle.serial_line.proofs.RunPlaces.{places_stay}
 use Rattle.serial_line.proofs.lines.Line.mark.Goals as goal
-use Rattle.serial_line.specs.Marks.{is_open_run, place_of, stands, touching}
-use Rattle.std.proofs.Common.{ap, rules, sym, ◌∙◌, ◌≡◌, false}
 use Rattle.std.specs.FinSet as set
 
 pub touch-requires-clause-run : goal.touch-requires-clause-run

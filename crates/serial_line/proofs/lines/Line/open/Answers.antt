@@ -1,8 +1,6 @@
 use Rattle.serial_line.proofs.RunPlaces.{no_places}
 use Rattle.serial_line.proofs.lines.Line.open.Goals as goal
-use Rattle.serial_line.specs.Labels.{AreLabels}
-use Rattle.serial_line.specs.RunPlaces.{AreRunPlaces}
-use Rattle.std.proofs.Common.{None, replicate, rules, subst, sym}
+use Rattle.serial_line.proofs.Prelude.{AreLabels, AreRunPlaces, None, replicate, rules, subst, sym}
 
 pub invariant_of-result : goal.invariant_of-result
 invariant_of-result c = record {

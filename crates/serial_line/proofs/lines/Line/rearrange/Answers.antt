@@ -1,12 +1,8 @@
-use Rattle.command_rules.proofs.Cited.{begins, first_held, flag_is, front_chosen, front_size, further, length_moved, partly, passed_more, passes, size_more, size_same, stays, there}
-use Rattle.command_rules.specs.ClosedSets.{Exchanged, Stays, brought, chosen, may_pass, others, rearranged}
+use Rattle.serial_line.proofs.Prelude.{Bool, Exchanged, List, Mark, Stays, ap, append-nil, arith, begins, brought, chosen, drop, drop_all, false, first_held, flag_is, front_chosen, front_size, further, length, length_moved, may_pass, meet_marks, others, partly, passed_more, passes, rearranged, refl, size_more, size_same, stays, subst, sym, take, take_all, there, true, ℕ, ◌++◌, ◌+◌, ◌-◌, ◌<◌, ◌∙◌, ◌≡◌, ◌≤◌}
 use Rattle.serial_line.proofs.Exchanged.{chained, first_stay}
 use Rattle.serial_line.proofs.Neighbours.{closed_marks}
 use Rattle.serial_line.proofs.lines.Line.rearrange.Goals as goal
 use Rattle.serial_line.proofs.lines.Line.rearrange.Goals.{else-before-at, then-before-at}
-use Rattle.serial_line.specs.Marks.{Mark, meet_marks}
-use Rattle.std.proofs.lemmas.List.{append-nil, drop_all}
-use Rattle.std.proofs.Common.{Bool, List, ap, arith, drop, false, length, refl, subst, sym, take, take_all, true, ℕ, ◌++◌, ◌+◌, ◌-◌, ◌<◌, ◌∙◌, ◌≡◌, ◌≤◌}
 
 -- no more items are in the set than were looked at
 few : (bs : List Bool) (ms : List Mark) (at done : ℕ) → length bs ≡ length ms → at < length ms → done ≡ length (front_chosen at bs ms) → done ≤ at

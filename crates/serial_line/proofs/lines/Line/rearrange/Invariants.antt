@@ -1,8 +1,5 @@
-use Rattle.command_rules.proofs.Cited.{front_chosen, partly}
-use Rattle.command_rules.specs.ClosedSets.{Exchanged}
+use Rattle.serial_line.proofs.Prelude.{Exchanged, front_chosen, length, meet_marks, partly, ◌≡◌}
 use Rattle.serial_line.proofs.lines.Line.rearrange.Given as goal
-use Rattle.serial_line.specs.Marks.{meet_marks}
-use Rattle.std.proofs.Common.{length, ◌≡◌}
 
 -- the items up to the place are rearranged, and all else is as it was
 abbrev pub invariant-items : goal.invariant-items

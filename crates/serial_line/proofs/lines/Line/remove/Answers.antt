@@ -1,14 +1,10 @@
-use Rattle.home_types.specs.declared.items.Item.TheVariants.{Ran}
+use Rattle.serial_line.proofs.Prelude.{AreRunPlaces, Ran, all_differ, ap, arith, end_leaves_room, false, front_of, items_of, length, marks_without, place_of, remove, rules, stands, subst, sym, take, true, untouched, vec_len, ◌∙◌, ◌≡◌}
 use Rattle.serial_line.proofs.Fronts.{front_removed}
 use Rattle.serial_line.proofs.Labels.{labels_left, labels_stay}
 use Rattle.serial_line.proofs.Once.{differ_removed, place_told, removed_told, removed_untold, told_stands, untold_stands}
 use Rattle.serial_line.proofs.RunPlaces.{before_removed}
 use Rattle.serial_line.proofs.Sealed.{unsealed_place}
 use Rattle.serial_line.proofs.lines.Line.remove.Goals as goal
-use Rattle.serial_line.specs.Labels.{end_leaves_room}
-use Rattle.serial_line.specs.Marks.{all_differ, front_of, items_of, marks_without, place_of, stands, untouched}
-use Rattle.serial_line.specs.RunPlaces.{AreRunPlaces}
-use Rattle.std.proofs.Common.{ap, arith, false, length, vec_len, remove, rules, subst, sym, take, true, ◌∙◌, ◌≡◌}
 
 -- it is none of those that are sealed
 pub remove_label-requires-clause-unsealed : goal.remove_label-requires-clause-unsealed

@@ -1,8 +1,6 @@
 use Rattle.serial_line.proofs.Once.{place_is, place_unfound}
 use Rattle.serial_line.proofs.lines.Line.search.Goals as goal
-use Rattle.serial_line.specs.Marks.{is_item}
-use Rattle.command_rules.specs.Searches.{last_place}
-use Rattle.std.proofs.Common.{None, ap, arith, drop, length, rules, subst, sym, ◌-◌, ◌<◌, ◌∙◌, ◌≡◌, ◌≤◌}
+use Rattle.serial_line.proofs.Prelude.{None, ap, arith, drop, is_item, last_place, length, rules, subst, sym, ◌-◌, ◌<◌, ◌∙◌, ◌≡◌, ◌≤◌}
 
 pub returns-then-is : goal.returns-then-is
 returns-then-is c =

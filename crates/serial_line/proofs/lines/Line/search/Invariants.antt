@@ -1,7 +1,5 @@
-use Rattle.command_rules.specs.Searches.{last_place}
+use Rattle.serial_line.proofs.Prelude.{None, drop, is_item, last_place, length, ◌≡◌, ◌≤◌}
 use Rattle.serial_line.proofs.lines.Line.search.Given as goal
-use Rattle.std.proofs.Common.{None, drop, length, ◌≡◌, ◌≤◌}
-use Rattle.serial_line.specs.Marks.{is_item}
 
 -- nothing from the place on is what is looked for
 abbrev pub invariant-loop-at : goal.invariant-loop-at

@@ -1,10 +1,8 @@
-use Rattle.home_types.specs.declared.items.Item.TheVariants.{Ran}
+use Rattle.serial_line.proofs.Prelude.{Ran, ap, arith, front_of, place_of, rules, settling, sym, true, ◌∙◌}
 use Rattle.serial_line.proofs.Fronts.{ended_closed, front_settled}
 use Rattle.serial_line.proofs.Once.{change_told, change_untold, differ_changed, place_told, same_items}
 use Rattle.serial_line.proofs.RunPlaces.{places_stay}
 use Rattle.serial_line.proofs.lines.Line.settle.Goals as goal
-use Rattle.serial_line.specs.Marks.{front_of, place_of, settling}
-use Rattle.std.proofs.Common.{ap, arith, rules, sym, true, ◌∙◌}
 
 pub front_from-self-inside-requires-clause-from : goal.front_from-self-inside-requires-clause-from
 front_from-self-inside-requires-clause-from c =

@@ -1,11 +1,8 @@
-use Rattle.command_rules.specs.ClosedSets.{exchanged}
+use Rattle.serial_line.proofs.Prelude.{AreRunPlaces, Some, all_differ, ap, arith, exchanged, front_of, get_or, items_of, length, rules, subst, suc, sym, with_place, ◌+◌, ◌<◌, ◌∙◌, ◌≡◌}
 use Rattle.serial_line.proofs.Exchanged.{differ_exchanged, front_exchanged, swapped}
 use Rattle.serial_line.proofs.Neighbours.{neighbours_there}
 use Rattle.serial_line.proofs.RunPlaces.{places_exchanged}
 use Rattle.serial_line.proofs.lines.Line.swap.Goals as goal
-use Rattle.serial_line.specs.Marks.{all_differ, front_of, items_of}
-use Rattle.serial_line.specs.RunPlaces.{AreRunPlaces, with_place}
-use Rattle.std.proofs.Common.{Some, ap, arith, get_or, length, rules, suc, subst, sym, ◌+◌, ◌<◌, ◌∙◌, ◌≡◌}
 
 pub front_from-self-inside-requires-clause-from : goal.front_from-self-inside-requires-clause-from
 front_from-self-inside-requires-clause-from c =

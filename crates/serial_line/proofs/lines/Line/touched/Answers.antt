@@ -1,8 +1,6 @@
-use Rattle.home_types.specs.declared.items.Item.TheVariants.{Ran}
+use Rattle.serial_line.proofs.Prelude.{Ran, ap, mark_has_touched, place_of, sym, ◌∙◌}
 use Rattle.serial_line.proofs.Once.{touched_told, untold_stands}
 use Rattle.serial_line.proofs.lines.Line.touched.Goals as goal
-use Rattle.serial_line.specs.Marks.{mark_has_touched, place_of}
-use Rattle.std.proofs.Common.{ap, sym, ◌∙◌}
 
 pub returns-in-Some : goal.returns-in-Some
 returns-in-Some c =

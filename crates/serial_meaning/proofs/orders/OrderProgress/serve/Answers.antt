@@ -1,4 +1,4 @@
-use Rattle.command_rules.specs.Rosters.{runs_of}
+use Rattle.serial_meaning.proofs.Prelude.{runs_of}
 use Rattle.serial_meaning.proofs.orders.OrderProgress.serve.Goals as goal
 
 pub returns-in-Failed-clause-done : goal.returns-in-Failed-clause-done

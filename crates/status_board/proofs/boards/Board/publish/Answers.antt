@@ -1,8 +1,4 @@
-use Rattle.std.proofs.Common.{rules, sym, ap, ◌∙◌, subst}
-use Rattle.status_board.specs.declared.passes.PassView.{PassView}
-use Rattle.status_board.specs.Publishings.{nothing, last_of, IsNotBelow, Rises}
-use Rattle.status_board.specs.Sights.{Sight}
-use Rattle.status_board.specs.Views.{publishing}
+use Rattle.status_board.proofs.Prelude.{IsNotBelow, PassView, Rises, Sight, ap, last_of, nothing, publishing, rules, subst, sym, ◌∙◌}
 use Rattle.status_board.proofs.Publishings.{rises_more}
 use Rattle.status_board.proofs.Steps.{publishes_as}
 use Rattle.status_board.proofs.boards.Board.publish.Goals as goal

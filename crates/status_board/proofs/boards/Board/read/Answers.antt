@@ -1,6 +1,4 @@
-use Rattle.std.proofs.Common.{rules, subst}
-use Rattle.status_board.specs.Publishings.{last_of, IsNotBelow}
-use Rattle.status_board.specs.Sights.{Sight}
+use Rattle.status_board.proofs.Prelude.{IsNotBelow, Sight, last_of, rules, subst}
 use Rattle.status_board.proofs.Publishings.{found_since}
 use Rattle.status_board.proofs.Steps.{looks}
 use Rattle.status_board.proofs.boards.Board.read.Goals as goal

@@ -1,4 +1,4 @@
-use Rattle.std.proofs.Common.{rules}
+use Rattle.status_board.proofs.Prelude.{rules}
 use Rattle.status_board.proofs.Steps.{watches}
 use Rattle.status_board.proofs.boards.Board.watcher.Goals as goal
 

@@ -1,8 +1,6 @@
-use Rattle.command_rules.specs.Rosters.{runs_of}
-use Rattle.std.proofs.Common.{refl, subst, sym, ◌∷◌}
+use Rattle.timeline_scheduler.proofs.Prelude.{IsGathered, refl, runs_of, subst, sym, ◌∷◌}
 use Rattle.timeline_scheduler.proofs.Gathering.{back_gathered, failed_gathered}
 use Rattle.timeline_scheduler.proofs.gathered.Gathered.add.Goals as goal
-use Rattle.timeline_scheduler.specs.Gathered.{IsGathered}
 
 pub returns-in-Failed : goal.returns-in-Failed
 returns-in-Failed c = λ items was.

@@ -1,5 +1,4 @@
-use Rattle.command_rules.specs.Rosters.{followed_by, runs_of}
-use Rattle.std.proofs.Common.{ap, Some, None, false, refl, sym, ◌∙◌, ◌≡◌}
+use Rattle.timeline_scheduler.proofs.Prelude.{None, Some, ap, false, followed_by, refl, runs_of, sym, ◌∙◌, ◌≡◌}
 use Rattle.timeline_scheduler.proofs.Gathering.{tied_one, tied_other}
 use Rattle.timeline_scheduler.proofs.gathered.Gathered.is_tied.Goals as goal
 

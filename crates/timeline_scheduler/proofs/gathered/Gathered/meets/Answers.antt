@@ -1,7 +1,4 @@
-use Rattle.command_rules.specs.Apart.{meet}
-use Rattle.command_rules.specs.Rosters.{runs_of}
-use Rattle.std.proofs.Common.{ap, sym, ◌∙◌}
-use Rattle.std.specs.List.{list_any}
+use Rattle.timeline_scheduler.proofs.Prelude.{ap, list_any, meet, runs_of, sym, ◌∙◌}
 use Rattle.timeline_scheduler.proofs.Gathering.{back_meets, failed_meets}
 use Rattle.timeline_scheduler.proofs.gathered.Gathered.meets.Goals as goal
 

@@ -1,5 +1,4 @@
-use Rattle.command_rules.specs.Rosters.{runs_of}
-use Rattle.std.proofs.Common.{sym, ◌∙◌}
+use Rattle.timeline_scheduler.proofs.Prelude.{runs_of, sym, ◌∙◌}
 use Rattle.timeline_scheduler.proofs.Gathering.{run_meets, run_meets_shared, run_shares}
 use Rattle.timeline_scheduler.proofs.gathered.Gathered.meets_run.Goals as goal
 

@@ -1,17 +1,7 @@
-use Rattle.command_rules.specs.Apart.{meet}
-use Rattle.command_rules.specs.ClosedSets.{chosen, closure}
-use Rattle.home_types.specs.declared.items.Item.{Item}
-use Rattle.lock_leasing.specs.Standings.{WindowParts}
-use Rattle.serial_line.specs.Marks.{Mark, items_of}
-use Rattle.std.proofs.Common.{List, ap, arith, drop, length, refl, rules, slice_get, subst, suc, sym, vec_len, ◌-◌, ◌<◌, ◌∙◌, ◌≡◌}
-use Rattle.std.proofs.lemmas.List.{length-map}
-use Rattle.std.specs.List.{list_any}
-use Rattle.std.specs.Prelude.{if◌then◌else◌, ◌||◌, ◌∷◌}
+use Rattle.timeline_scheduler.proofs.Prelude.{IsGathered, Item, List, Mark, ScratchRoom, WindowParts, ap, arith, chosen, closure, drop, if◌then◌else◌, items_of, length, length-map, list_any, meet, refl, rules, slice_get, subst, suc, sym, vec_len, ◌-◌, ◌<◌, ◌||◌, ◌∙◌, ◌∷◌, ◌≡◌}
 use Rattle.timeline_scheduler.proofs.Closing.{all_closed, chosen_next, closed_next, none_chosen, none_closed}
 use Rattle.timeline_scheduler.proofs.ItemPlaces.{item_there, told_at}
 use Rattle.timeline_scheduler.proofs.scratches.Scratch.close.Goals as goal
-use Rattle.timeline_scheduler.specs.Gathered.{IsGathered}
-use Rattle.timeline_scheduler.specs.Scratches.{ScratchRoom}
 
 -- as many items as marks
 items_length : (marks : List Mark) → length (items_of marks) ≡ length marks

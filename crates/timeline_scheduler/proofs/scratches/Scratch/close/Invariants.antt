@@ -1,11 +1,6 @@
-use Rattle.command_rules.specs.Apart.{meet}
-use Rattle.command_rules.specs.ClosedSets.{chosen}
-use Rattle.serial_line.specs.Marks.{items_of}
-use Rattle.std.proofs.Common.{drop, length, ◌≡◌, ◌≤◌}
-use Rattle.std.specs.Prelude.{vec_capacity}
+use Rattle.timeline_scheduler.proofs.Prelude.{IsGathered, chosen, drop, items_of, length, meet, vec_capacity, ◌≡◌, ◌≤◌}
 use Rattle.timeline_scheduler.proofs.Closing.{IsClosedTo}
 use Rattle.timeline_scheduler.proofs.scratches.Scratch.close.Given as goal
-use Rattle.timeline_scheduler.specs.Gathered.{IsGathered}
 
 -- the items from here on are closed, and those of the set among them gathered
 abbrev pub invariant-items : goal.invariant-items

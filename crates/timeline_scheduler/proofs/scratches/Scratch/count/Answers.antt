@@ -1,5 +1,4 @@
-use Rattle.std.proofs.Common.{arith, rules, ◌≡◌}
-use Rattle.std.specs.Prelude.{count_by}
+use Rattle.timeline_scheduler.proofs.Prelude.{arith, count_by, rules, ◌≡◌}
 use Rattle.timeline_scheduler.proofs.Counting.{count_within}
 use Rattle.timeline_scheduler.proofs.scratches.Scratch.count.Goals as goal
 

@@ -1,4 +1,4 @@
-use Rattle.std.specs.Prelude.{None, ◌≡◌}
+use Rattle.timeline_scheduler.proofs.Prelude.{None, ◌≡◌}
 use Rattle.timeline_scheduler.proofs.HeldUses.{AreSetTo}
 use Rattle.timeline_scheduler.proofs.scratches.Scratch.forget_uses.Given as goal
 

@@ -1,19 +1,8 @@
-use Rattle.command_rules.specs.ClosedSets.{chosen}
-use Rattle.command_rules.specs.Rosters.{commands_of, touches}
-use Rattle.home_types.specs.declared.items.Item.{Item}
-use Rattle.lock_leasing.specs.Standings.{WindowParts}
-use Rattle.serial_line.specs.Marks.{Mark, items_of}
-use Rattle.std.proofs.Common.{List, ap, arith, false, length, refl, slice_get, subst, sym, take, true, ◌<◌, ◌∙◌, ◌≡◌}
-use Rattle.std.proofs.lemmas.List.{get_or_default, length-map}
-use Rattle.std.proofs.lemmas.List.Sums.{fold-append}
-use Rattle.std.specs.Prelude.{fold, slice_index_or}
+use Rattle.timeline_scheduler.proofs.Prelude.{HoldsTimes, Item, List, Mark, ScratchRoom, Slot, WindowParts, ap, arith, chosen, commands_of, false, fold, fold-append, get_or_default, items_of, length, length-map, passed_item, passed_set, plan_behind, refl, slice_get, slice_index_or, subst, sym, take, touches, true, ◌<◌, ◌∙◌, ◌≡◌}
 use Rattle.timeline_scheduler.proofs.Closing.{chosen_more, chosen_same, first_chosen}
 use Rattle.timeline_scheduler.proofs.ItemPlaces.{item_there, told_at}
 use Rattle.timeline_scheduler.proofs.Passes.{walk_done, walk_length, walk_planned}
 use Rattle.timeline_scheduler.proofs.scratches.Scratch.plan.Goals as goal
-use Rattle.timeline_scheduler.specs.Scratches.{HoldsTimes, ScratchRoom}
-use Rattle.timeline_scheduler.specs.Slots.{passed_item, passed_set, plan_behind}
-use Rattle.timeline_scheduler.specs.declared.slots.Slot.{Slot}
 
 -- as many items as marks
 items_length : (marks : List Mark) → length (items_of marks) ≡ length marks

@@ -1,9 +1,5 @@
-use Rattle.command_rules.specs.ClosedSets.{chosen}
-use Rattle.serial_line.specs.Marks.{items_of}
-use Rattle.std.proofs.Common.{take, ◌≡◌}
-use Rattle.std.specs.Prelude.{fold}
+use Rattle.timeline_scheduler.proofs.Prelude.{chosen, fold, items_of, passed_item, take, ◌≡◌}
 use Rattle.timeline_scheduler.proofs.scratches.Scratch.plan.Given as goal
-use Rattle.timeline_scheduler.specs.Slots.{passed_item}
 
 -- the items of the set so far are passed
 abbrev pub invariant-items : goal.invariant-items

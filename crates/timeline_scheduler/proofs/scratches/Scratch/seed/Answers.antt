@@ -1,12 +1,7 @@
 use Rattle.home_types.proofs.Cited.{take_snoc}
-use Rattle.std.proofs.Common.{Bool, List, [], ap, arith, length, subst, sym, ◌++◌, ◌∙◌, ◌∷◌}
-use Rattle.std.proofs.lemmas.List.{take_all}
+use Rattle.timeline_scheduler.proofs.Prelude.{Bool, List, ScratchRoom, WindowParts, [], ap, arith, length, seeds, subst, sym, take_all, ◌++◌, ◌+◌, ◌<◌, ◌^◌, ◌∙◌, ◌∷◌}
 use Rattle.timeline_scheduler.proofs.Needs.{seeds_length}
 use Rattle.timeline_scheduler.proofs.scratches.Scratch.seed.Goals as goal
-use Rattle.timeline_scheduler.specs.Bases.{seeds}
-use Rattle.timeline_scheduler.specs.Scratches.{ScratchRoom}
-use Rattle.lock_leasing.specs.Standings.{WindowParts}
-use Rattle.std.specs.Prelude.{◌+◌, ◌<◌, ◌^◌}
 
 pub items-preserved : goal.items-preserved
 items-preserved c = record {

@@ -1,7 +1,5 @@
-use Rattle.std.proofs.Common.{take, ◌≡◌}
-use Rattle.std.specs.Prelude.{vec_capacity}
+use Rattle.timeline_scheduler.proofs.Prelude.{seeds, take, vec_capacity, ◌≡◌}
 use Rattle.timeline_scheduler.proofs.scratches.Scratch.seed.Given as goal
-use Rattle.timeline_scheduler.specs.Bases.{seeds}
 
 -- the flags of the items so far
 abbrev pub invariant-items : goal.invariant-items

@@ -1,16 +1,7 @@
-use Rattle.command_rules.specs.ClosedSets.{either_of}
-use Rattle.command_rules.specs.Items.{of_run}
-use Rattle.home_types.specs.declared.items.Item.{Item}
-use Rattle.lock_leasing.specs.Standings.{WindowParts}
-use Rattle.serial_line.specs.Marks.{Mark, items_of}
-use Rattle.std.proofs.Common.{Bool, List, ap, arith, false, length, slice_get, sym, ◌<◌, ◌∙◌, ◌≡◌}
-use Rattle.std.proofs.lemmas.List.{get_or_default, length-map}
-use Rattle.std.specs.Prelude.{map}
+use Rattle.timeline_scheduler.proofs.Prelude.{Bool, Item, List, Mark, ScratchRoom, WindowParts, ap, arith, either_of, false, get_or_default, is_misfit, items_of, length, length-map, map, of_run, slice_get, sym, ◌<◌, ◌∙◌, ◌≡◌}
 use Rattle.timeline_scheduler.proofs.ItemPlaces.{item_there, told_at}
 use Rattle.timeline_scheduler.proofs.Taking.{all_taken, taken_in, taken_not, taken_too}
 use Rattle.timeline_scheduler.proofs.scratches.Scratch.take_misfits.Goals as goal
-use Rattle.timeline_scheduler.specs.Scratches.{ScratchRoom}
-use Rattle.timeline_scheduler.specs.Slots.{is_misfit}
 
 -- as many items as marks
 items_length : (marks : List Mark) → length (items_of marks) ≡ length marks

@@ -1,10 +1,6 @@
-use Rattle.command_rules.specs.Items.{of_run}
-use Rattle.serial_line.specs.Marks.{items_of}
-use Rattle.std.proofs.Common.{◌≡◌}
-use Rattle.std.specs.Prelude.{vec_capacity}
+use Rattle.timeline_scheduler.proofs.Prelude.{is_misfit, items_of, of_run, vec_capacity, ◌≡◌}
 use Rattle.timeline_scheduler.proofs.Taking.{IsTakenTo}
 use Rattle.timeline_scheduler.proofs.scratches.Scratch.take_misfits.Given as goal
-use Rattle.timeline_scheduler.specs.Slots.{is_misfit}
 
 -- the misfits so far are taken in
 abbrev pub invariant-items : goal.invariant-items

@@ -1,8 +1,6 @@
-use Rattle.std.specs.Prelude.{option_map, ◌≡◌}
+use Rattle.timeline_scheduler.proofs.Prelude.{option_map, planned_in, use_between, ◌≡◌}
 use Rattle.timeline_scheduler.proofs.HeldUses.{AreSetTo}
 use Rattle.timeline_scheduler.proofs.scratches.Scratch.use_as_planned.Given as goal
-use Rattle.timeline_scheduler.specs.PlannedUses.{use_between}
-use Rattle.timeline_scheduler.specs.Scratches.{planned_in}
 
 -- the uses on the devices of the commands up to here
 abbrev pub invariant-commands : goal.invariant-commands

@@ -1,11 +1,7 @@
-use Rattle.std.proofs.Common.{ap, arith, refl, sym, ◌∙◌}
-use Rattle.std.proofs.lemmas.List.{drop_all}
+use Rattle.timeline_scheduler.proofs.Prelude.{None, ScratchRoom, Some, ap, arith, drop_all, get_or, length, planned_in_turn, refl, slice_get, sym, ◌<◌, ◌∙◌, ◌≡◌, ◌≤◌}
 use Rattle.std.proofs.lemmas.Option.{get_or_from_slice_get, slice_get-get_or, slice_get_within}
-use Rattle.std.specs.Prelude.{None, Some, get_or, length, slice_get, ◌<◌, ◌≡◌, ◌≤◌}
 use Rattle.timeline_scheduler.proofs.PlannedUses.{use_from, use_is}
 use Rattle.timeline_scheduler.proofs.scratches.Scratch.use_in_turn.Goals as goal
-use Rattle.timeline_scheduler.specs.PlannedUses.{planned_in_turn}
-use Rattle.timeline_scheduler.specs.Scratches.{ScratchRoom}
 
 pub commands-init : goal.commands-init
 commands-init c = record {

@@ -1,10 +1,6 @@
-use Rattle.command_rules.specs.Rosters.{is_on}
-use Rattle.std.proofs.Common.{None, drop, get_or, length, ℕ, ◌<◌, ◌≡◌}
-use Rattle.std.specs.List.{list_any}
-use Rattle.std.specs.Prelude.{true}
+use Rattle.timeline_scheduler.proofs.Prelude.{None, drop, get_or, is_on, length, list_any, planned_in_turn, planned_use, true, ℕ, ◌<◌, ◌≡◌}
 use Rattle.timeline_scheduler.proofs.PlannedUses.{use_from}
 use Rattle.timeline_scheduler.proofs.scratches.Scratch.use_in_turn.Given as goal
-use Rattle.timeline_scheduler.specs.PlannedUses.{planned_in_turn, planned_use}
 
 -- the uses so far, and with them those of the commands that are left
 abbrev pub invariant-commands : goal.invariant-commands

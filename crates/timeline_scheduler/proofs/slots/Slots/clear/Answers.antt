@@ -1,9 +1,6 @@
-use Rattle.std.proofs.Common.{ap, arith, length, ◌<◌, ◌∙◌}
-use Rattle.std.proofs.lemmas.List.{length-set}
-use Rattle.std.specs.Prelude.{slice_set}
+use Rattle.timeline_scheduler.proofs.Prelude.{ap, arith, length, length-set, no_slot, slice_set, ◌<◌, ◌∙◌}
 use Rattle.timeline_scheduler.proofs.SlotSets.{cleared_more}
 use Rattle.timeline_scheduler.proofs.slots.Slots.clear.Goals as goal
-use Rattle.timeline_scheduler.specs.Slots.{no_slot}
 
 pub devices-preserved : goal.devices-preserved
 devices-preserved c =

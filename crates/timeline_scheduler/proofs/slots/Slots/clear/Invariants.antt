@@ -1,6 +1,5 @@
-use Rattle.std.proofs.Common.{drop, length, take, ◌++◌, ◌≡◌}
+use Rattle.timeline_scheduler.proofs.Prelude.{cleared, drop, length, take, ◌++◌, ◌≡◌}
 use Rattle.timeline_scheduler.proofs.slots.Slots.clear.Given as goal
-use Rattle.timeline_scheduler.specs.Slots.{cleared}
 
 -- nothing is known of the devices so far
 abbrev pub invariant-devices : goal.invariant-devices

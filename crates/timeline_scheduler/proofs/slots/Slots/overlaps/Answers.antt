@@ -1,17 +1,9 @@
-use Rattle.command_rules.specs.Rosters.{touches}
-use Rattle.home_types.specs.DeviceSets.{IsFirstFrom}
-use Rattle.lineage_table.specs.Accesses.{access_of, has_access}
-use Rattle.lineage_table.specs.Lineages.{accesses_at}
-use Rattle.lock_leasing.specs.Standings.{WindowParts}
-use Rattle.std.proofs.Common.{Some, ap, arith, false, length, refl, subst, sym, true, ◌<◌, ◌∙◌, ◌≡◌}
-use Rattle.std.proofs.lemmas.List.{length-set}
+use Rattle.timeline_scheduler.proofs.Prelude.{IsFirstFrom, Some, WindowParts, access_of, accesses_at, ap, arith, false, has_access, is_misfit, length, length-set, overlaps, refl, slot_at, subst, sym, touches, true, ◌&&◌, ◌<◌, ◌∙◌, ◌≡◌}
 use Rattle.std.specs.FinSet as set
-use Rattle.std.specs.Prelude.{◌&&◌}
 use Rattle.timeline_scheduler.proofs.DeviceWalks.{any_done, any_found, any_next, next_alike, none_alike}
 use Rattle.timeline_scheduler.proofs.Overlaps.{all_left, is_shared, overlaps_on}
 use Rattle.timeline_scheduler.proofs.SlotSets.{slot_read}
 use Rattle.timeline_scheduler.proofs.slots.Slots.overlaps.Goals as goal
-use Rattle.timeline_scheduler.specs.Slots.{is_misfit, overlaps, slot_at}
 
 pub shared-init : goal.shared-init
 shared-init c = record {

@@ -1,9 +1,7 @@
-use Rattle.std.proofs.Common.{length, ◌-◌, ◌≡◌}
-use Rattle.std.specs.List.{list_any}
+use Rattle.timeline_scheduler.proofs.Prelude.{is_misfit, length, list_any, ◌-◌, ◌≡◌}
 use Rattle.timeline_scheduler.proofs.DeviceWalks.{rest}
 use Rattle.timeline_scheduler.proofs.Overlaps.{is_shared, overlaps_on}
 use Rattle.timeline_scheduler.proofs.slots.Slots.overlaps.Given as goal
-use Rattle.timeline_scheduler.specs.Slots.{is_misfit}
 
 -- the devices that are left decide
 abbrev pub invariant-shared : goal.invariant-shared

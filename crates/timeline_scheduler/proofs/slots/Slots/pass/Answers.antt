@@ -1,10 +1,6 @@
-use Rattle.command_rules.specs.Rosters.{touches}
-use Rattle.std.proofs.Common.{ap, arith, is_some, length, sym, ◌∙◌, ◌≡◌}
-use Rattle.history_book.specs.Books.{doom_of}
-use Rattle.lock_leasing.specs.Standings.{WindowParts}
+use Rattle.timeline_scheduler.proofs.Prelude.{WindowParts, ap, arith, devices_passed, doom_of, is_some, length, slot_passed, sym, touches, ◌∙◌, ◌≡◌}
 use Rattle.timeline_scheduler.proofs.SlotSets.{changed_length}
 use Rattle.timeline_scheduler.proofs.slots.Slots.pass.Goals as goal
-use Rattle.timeline_scheduler.specs.Slots.{devices_passed, slot_passed}
 
 pub wait_for_writer-requires-clause-homed : goal.wait_for_writer-requires-clause-homed
 wait_for_writer-requires-clause-homed c = λ x d on.

@@ -1,16 +1,7 @@
-use Rattle.history_book.specs.Books.{doom_of}
-use Rattle.home_types.specs.DeviceSets.{IsFirstFrom}
-use Rattle.lineage_table.specs.Accesses.{access_of, has_access}
-use Rattle.lineage_table.specs.Lineages.{accesses_at}
-use Rattle.lock_leasing.specs.Standings.{WindowParts}
-use Rattle.std.proofs.Common.{Bool, None, Some, ap, arith, is_some, length, option_map, rules, subst, sym, true, ℕ, ◌<◌, ◌∙◌, ◌≡◌}
-use Rattle.std.proofs.lemmas.Grind.{common_steps}
-use Rattle.std.proofs.lemmas.List.{length-set}
-use Rattle.std.specs.Prelude.{max, ◌&&◌}
+use Rattle.timeline_scheduler.proofs.Prelude.{Bool, IsFirstFrom, None, Some, WindowParts, access_of, accesses_at, ap, arith, changed, changed_on, common_steps, devices_passed, doom_of, end_of_access, has_access, is_device_followed, is_passed, is_some, is_with_access, length, length-set, max, option_map, rules, slot_behind, slot_passed, subst, sym, true, whole_passed, ℕ, ◌&&◌, ◌<◌, ◌∙◌, ◌≡◌}
 use Rattle.timeline_scheduler.proofs.DeviceWalks.{fold_done, fold_next, next_alike, none_alike}
 use Rattle.timeline_scheduler.proofs.SlotSets.{changed_is}
 use Rattle.timeline_scheduler.proofs.slots.Slots.pass_accesses.Goals as goal
-use Rattle.timeline_scheduler.specs.Slots.{changed, changed_on, devices_passed, end_of_access, is_device_followed, is_passed, is_with_access, slot_behind, slot_passed, whole_passed}
 
 pub find-access-requires-clause-there : goal.find-access-requires-clause-there
 find-access-requires-clause-there c =

@@ -1,10 +1,6 @@
-use Rattle.lineage_table.specs.Accesses.{access_of}
-use Rattle.lineage_table.specs.Lineages.{accesses_at}
-use Rattle.std.proofs.Common.{length, ◌-◌, ◌≡◌}
-use Rattle.std.specs.Prelude.{fold, max}
+use Rattle.timeline_scheduler.proofs.Prelude.{access_of, accesses_at, changed, devices_passed, end_of_access, fold, is_passed, length, max, slot_passed, whole_passed, ◌-◌, ◌≡◌}
 use Rattle.timeline_scheduler.proofs.DeviceWalks.{rest}
 use Rattle.timeline_scheduler.proofs.slots.Slots.pass_accesses.Given as goal
-use Rattle.timeline_scheduler.specs.Slots.{changed, devices_passed, end_of_access, is_passed, slot_passed, whole_passed}
 
 -- the devices that are left make the slots and the end what they must be
 abbrev pub invariant-devices : goal.invariant-devices

@@ -1,12 +1,8 @@
-use Rattle.command_rules.specs.Rosters.{runs_of}
-use Rattle.std.proofs.Common.{ap, arith, false, length, refl, slice_index_or, sym, ◌∙◌}
-use Rattle.home_types.specs.declared.commands.Command.{Command}
+use Rattle.timeline_scheduler.proofs.Prelude.{Command, ap, arith, false, length, plan_behind, planned_span, refl, runs_of, slice_index_or, slot_at, sym, ◌∙◌}
 use Rattle.home_types.specs.declared.commands.Guard.TheVariants.{Always}
 use Rattle.home_types.specs.declared.commands.Job.TheVariants.{Set}
 use Rattle.timeline_scheduler.proofs.HeldTimes.{command_told, command_within, planned_all, planned_next, planned_none}
 use Rattle.timeline_scheduler.proofs.slots.Slots.plan.Goals as goal
-use Rattle.timeline_scheduler.specs.Scratches.{planned_span}
-use Rattle.timeline_scheduler.specs.Slots.{plan_behind, slot_at}
 
 -- what is told of a place that is none
 abbrev none_there : Command

@@ -1,4 +1,4 @@
-use Rattle.std.proofs.Common.{length, ◌≡◌}
+use Rattle.timeline_scheduler.proofs.Prelude.{length, ◌≡◌}
 use Rattle.timeline_scheduler.proofs.HeldTimes.{IsPlannedTo}
 use Rattle.timeline_scheduler.proofs.slots.Slots.plan.Given as goal
 

@@ -1,13 +1,9 @@
-use Rattle.command_rules.proofs.Cited.{device_below}
-use Rattle.command_rules.specs.Rosters.{commands_of, runs_of}
+use Rattle.timeline_scheduler.proofs.Prelude.{ap, arith, changed, changed_on, commands_of, device_below, devices_among, length, length-set, refl, runs_of, slot_waiting, sym, ◌<◌, ◌∙◌}
 use Rattle.home_types.specs.Limits.{most_devices}
-use Rattle.std.proofs.Common.{ap, arith, length, refl, sym, ◌<◌, ◌∙◌}
-use Rattle.std.proofs.lemmas.List.{length-set}
 use Rattle.timeline_scheduler.proofs.DeviceWalks.{fold_done, fold_next, rest}
 use Rattle.timeline_scheduler.proofs.SlotSets.{changed_is}
 use Rattle.timeline_scheduler.proofs.WriterWaits.{next_waiting, none_waiting, waiting_slot, waiting_below, waits_alone, waits_for, waits_touched}
 use Rattle.timeline_scheduler.proofs.slots.Slots.wait_for_writer.Goals as goal
-use Rattle.timeline_scheduler.specs.Slots.{changed, changed_on, devices_among, slot_waiting}
 
 pub overflow_add-from : goal.overflow_add-from
 overflow_add-from c =

@@ -1,9 +1,7 @@
-use Rattle.command_rules.specs.Rosters.{runs_of}
-use Rattle.std.proofs.Common.{length, ◌-◌, ◌≡◌}
+use Rattle.timeline_scheduler.proofs.Prelude.{changed, length, runs_of, slot_waiting, ◌-◌, ◌≡◌}
 use Rattle.timeline_scheduler.proofs.DeviceWalks.{rest}
 use Rattle.timeline_scheduler.proofs.WriterWaits.{waits_for}
 use Rattle.timeline_scheduler.proofs.slots.Slots.wait_for_writer.Given as goal
-use Rattle.timeline_scheduler.specs.Slots.{changed, slot_waiting}
 
 -- the devices that are left make the slots what they must be
 abbrev pub invariant-devices : goal.invariant-devices

@@ -1,7 +1,7 @@
 use Rattle.window_order.proofs.KeptFronts.{front_rearranged}
 use Rattle.window_order.proofs.order_states.OrderState.arrange.Goals as goal
 use Rattle.window_order.specs.OrderStates.{arranged}
-use Rattle.std.proofs.Common.{ap, inl, inr, sym, ◌∙◌}
+use Rattle.window_order.proofs.Prelude.{ap, inl, inr, sym, ◌∙◌}
 
 pub rearrange-requires : goal.rearrange-requires
 rearrange-requires c = let may = c.requires.flags c.in-Timeline.is in record { size = may.size; closed = may.closed; sealed = may.sealed }

@@ -1,8 +1,5 @@
-use Rattle.home_types.specs.declared.items.Item.TheVariants.{Ran}
+use Rattle.window_order.proofs.Prelude.{Ran, arith, front_inserted, untouched}
 use Rattle.window_order.proofs.order_states.OrderState.join.Goals as goal
-use Rattle.serial_line.proofs.Cited.{front_inserted}
-use Rattle.serial_line.specs.Marks.{untouched}
-use Rattle.std.proofs.Common.{arith}
 
 pub seal-requires : goal.seal-requires
 seal-requires c =

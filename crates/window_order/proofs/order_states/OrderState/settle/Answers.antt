@@ -1,6 +1,5 @@
 use Rattle.window_order.proofs.order_states.OrderState.settle.Goals as goal
-use Rattle.serial_line.proofs.Cited.{front_settling}
-use Rattle.std.proofs.Common.{arith}
+use Rattle.window_order.proofs.Prelude.{arith, front_settling}
 
 pub seal-requires : goal.seal-requires
 seal-requires c =

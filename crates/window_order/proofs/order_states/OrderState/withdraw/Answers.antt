@@ -1,8 +1,5 @@
-use Rattle.home_types.specs.declared.items.Item.TheVariants.{Ran}
+use Rattle.window_order.proofs.Prelude.{Ran, ap, arith, front_without, stands, sym, take, ◌∙◌}
 use Rattle.window_order.proofs.order_states.OrderState.withdraw.Goals as goal
-use Rattle.serial_line.proofs.Cited.{front_without}
-use Rattle.serial_line.specs.Marks.{stands}
-use Rattle.std.proofs.Common.{ap, arith, sym, take, ◌∙◌}
 
 pub seal-requires : goal.seal-requires
 seal-requires c =
