@@ -1,10 +1,9 @@
 -- What many proofs of this crate cite, passed on from one place.
 unfoldable pub use Rattle.day_report.specs.Days.{abort_count, commit_count, day_text_from, head_text, total_text, window_lines, window_text, window_texts_from}
 pub use Rattle.day_report.specs.Days.{day_text, is_abort, is_commit}
-unfoldable pub use Rattle.day_report.specs.Lines.{answer_word, answer_words, end_text, four_digits, home_line, home_words, item_words, line_of_run, order_line, run_lines, time_text, trace_lines, two_digits, window_line}
-pub use Rattle.day_report.specs.Lines.{entry_text, home_word, item_word, trace_line}
+unfoldable pub use Rattle.day_report.specs.Lines.{answer_word, answer_words, end_text, entry_text, four_digits, home_line, home_word, home_words, item_word, item_words, line_of_run, order_line, run_lines, time_text, trace_line, trace_lines, two_digits, window_line}
 pub use Rattle.day_report.specs.RunEntries.{AreApart, entries_of_run, run_told_of}
-pub use Rattle.day_report.specs.Words.{answer_text, cause_text, device_name, device_of, routine_name, states_of, value_text}
+unfoldable pub use Rattle.day_report.specs.Words.{answer_text, cause_text, device_name, device_of, routine_name, states_of, value_text}
 pub use Rattle.history_book.specs.Books.{end_in, end_of, first_told}
 pub use Rattle.history_book.specs.declared.entries.End.TheVariants.{Aborted, Committed}
 pub use Rattle.history_book.specs.declared.entries.Entry.{Entry}
