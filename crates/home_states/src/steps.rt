@@ -100,6 +100,7 @@ impl LiveHome {
     /// where no window is open.
     pub fn is_blocked(&self, r: RunNo) -> Option<bool>
         ensures blocked { IfSome result (λ yes. IsTrue yes → IsBlockedRun self.now r.0) }
+        ensures open { IfSome result (λ _. IsWindowOpen self.now) }
         ensures none { IfNone result (IsBetweenWindows self.now) }
     {
         match &self.phase {

@@ -1,7 +1,7 @@
 -- The steps of a window as a C program makes them.
 use Rattle.device_gate.specs.declared.slips.Told.{Told}
 use Rattle.history_book.specs.declared.entries.Entry.{Entry}
-use Rattle.home_states.specs.LiveHomes.{LiveState, hub_in}
+use Rattle.home_states.specs.LiveHomes.{IsWindowOpen, LiveState, hub_in}
 use Rattle.home_states.specs.Steps.{HasAnswered, HasNextNumber, HasProbed, HasTaken, IsBlockedRun, left_to_do}
 use Rattle.home_states.specs.Tickets.{call_told}
 use Rattle.hub_core.specs.declared.refusals.NotQuiet.{NotQuiet}
@@ -43,9 +43,10 @@ pub record HasSent (s : LiveState) (device : ℕ) (told : ToldTurn) (t : LiveSta
   pub number : HasNextNumber s (Some out) t
   pub told_is : told ≡ out_turn out.0 out.1
 
--- 1 is told of a run that is known to be blocked: a window is open, and it waits in it at every
--- moment, until another step; and 0 of another one
+-- a window is open, and 1 is told of a run that is known to be blocked: it waits there at every
+-- moment, until another step; 0 is told of another one
 pub record IsKnownBlocked (s : LiveState) (run told : ℕ) : Type 0 where
+  pub opened : IsWindowOpen s
   pub known : Bool
   pub told_is : told ≡ one_where known
   pub waits : IsTrue known → IsBlockedRun s run
