@@ -375,8 +375,7 @@ class WindowTeller:
         )
         if left:
             yield Said(
-                f"Not undone: {listed(left)}, since a run behind it in the line wrote there, and "
-                "that stands.",
+                f"Not undone: {listed(left)}, since a run after it in the line wrote there.",
                 (),
                 2,
             )
