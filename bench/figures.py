@@ -160,7 +160,7 @@ def peak(program: str, at_a_time: int) -> None:
         f"of its own: the last record is"
         f" there after {spent:.1f} s, so {HOMES / spent:.0f} homes a second; a home takes "
         f"{1000 * times[HOMES // 2]:.1f} ms in the"
-        f" middle, and one in a hundred {1000 * times[HOMES * 99 // 100]:.1f} ms or more, with the "
+        f" median, and one in a hundred {1000 * times[HOMES * 99 // 100]:.1f} ms or more, with the "
         f"start of its process."
     )
 
