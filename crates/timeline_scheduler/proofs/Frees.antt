@@ -1,6 +1,7 @@
 -- When a device is free for a run behind the items of a set, and what the access of a run of the set tells of that.
-use Rattle.timeline_scheduler.proofs.Prelude.{Access, Alone, Back, Bool, EachTail, Facts, Failed, Grips, HasAccess, Item, List, None, Ran, Reading, RunNo, Setting, Slot, Some, [], access_of, and_parts, ap, arith, common_steps, cond, covers, eq-eqb, false, fold-append, free, has_access, if◌then◌else◌, is_doomed, is_live, is_of, is_open, is_ran, is_released, list_any, map, max, nat_lt, not, or_from, or_left, or_parts, or_right, planned_end, point, reads_first, refl, slot_behind, slot_waiting, sound_holds, subst, sym, true, whole_end, writes_on, ℕ, ◌&&◌, ◌++◌, ◌==◌, ◌||◌, ◌∙◌, ◌∷◌, ◌≡◌}
-use Rattle.home_types.specs.declared.numbers.DeviceNo.{DeviceNo}
+use Rattle.timeline_scheduler.proofs.Prelude.{Alone, Back, Bool, EachTail, Facts, Failed, Grips, HasAccess, Item, Kept, List, None, Ran, Reading, RunNo, Setting, Slot, Some, [], access_of, and_parts, ap, arith, chosen, common_steps, cond, doom_of, eq-eqb, false, fold, free, has_access, if◌then◌else◌, is_counted, is_doomed, is_live, is_of, is_open, is_ran, is_released, is_some, later_end, latest_end, list_any, map, max, nat_lt, not, or_from, or_left, or_parts, or_right, planned_end, point, reads_first, refl, slot_waiting, sound_holds, subst, sym, true, whole_end, writes_on, ℕ, ◌&&◌, ◌++◌, ◌==◌, ◌||◌, ◌∙◌, ◌∷◌, ◌≡◌}
+use Rattle.lineage_table.specs.declared.accesses.Access.{Access}
+use Rattle.lock_leasing.specs.Order.{covers}
 use Rattle.lock_leasing.specs.Tables.{EachTellsOfRun, TellsOfRun, runs_with_access, uses}
 use Rattle.lock_leasing.specs.Words.{has_effect, holds_device}
 
@@ -20,8 +21,33 @@ none_of q (x ∷ xs) none = ap (λ b. cond b (Some x) (access_of q xs)) (or_part
 pub max_none : (t : ℕ) → max t 0 ≡ t
 max_none t = grind (arith, common_steps)
 
-max_both : (a b c : ℕ) → max (max a b) c ≡ max a (max b c)
-max_both a b c = grind (arith, common_steps)
+none_max : (t : ℕ) → max 0 t ≡ t
+none_max t = grind (arith, common_steps)
+
+max_past : (a x e : ℕ) → max (max a x) e ≡ max (max a e) x
+max_past a x e = grind (arith, common_steps)
+
+max_four : (a b e f : ℕ) → max (max a f) (max b e) ≡ max (max a b) (max e f)
+max_four a b e f = grind (arith, common_steps)
+
+-- the latest of two ends of each item, one after the other
+both_ends : (first last both : Item → ℕ) → ((i : Item) → both i ≡ max (first i) (last i)) → (is : List Item) (a b : ℕ) → fold (λ t i. max t (last i)) (max a (fold (λ t i. max t (first i)) b is)) is ≡ fold (λ t i. max t (both i)) (max a b) is
+both_ends first last both same [] a b = refl
+both_ends first last both same (i ∷ is) a b =
+    ap (λ u. fold (λ t j. max t (last j)) u is) (max_past a (fold (λ t j. max t (first j)) (max b (first i)) is) (last i))
+    ∙ both_ends first last both same is (max a (last i)) (max b (first i))
+    ∙ ap (λ u. fold (λ t j. max t (both j)) u is) (max_four a b (first i) (last i) ∙ ap (max (max a b)) (sym (same i)))
+
+-- what none of a list is, none of a part is
+chosen_lacks : (p : Item → Bool) (bs : List Bool) (is : List Item) → list_any p is ≡ false → list_any p (chosen bs is) ≡ false
+unfolding chosen
+chosen_lacks p bs [] none = refl
+chosen_lacks p [] (i ∷ is) none = refl
+chosen_lacks p (b ∷ bs) (i ∷ is) none = at b (or_parts (p i) (list_any p is) none).0 (chosen_lacks p bs is (or_parts (p i) (list_any p is) none).1)
+  where
+    at : (c : Bool) → p i ≡ false → list_any p (chosen bs is) ≡ false → list_any p (if c then i ∷ chosen bs is else chosen bs is) ≡ false
+    at true here rest = or_from (p i) (list_any p (chosen bs is)) here rest
+    at false here rest = rest
 
 later_of : (t e : ℕ) (live reads writes : Bool) (whole : ℕ) → (reads ≡ true → whole ≡ (if live then e else 0)) → (if nat_lt t whole && (reads && writes) then whole else t) ≡ max t (if live && reads && writes then e else 0)
 later_of t e live true writes whole is = ap (λ k. if nat_lt t k && (true && writes) then k else t) (is refl) ∙ at live writes
@@ -160,21 +186,31 @@ module _ (w : Setting) (n : Reading) (g : Grips) (f : Facts w n g) (r d : ℕ) w
   abbrev end_whole : ℕ → ℕ
   end_whole x = if is_live n x && reads_first w.runs r d && writes_on w.runs x d then whole_end w n x else 0
 
+  -- the planned end on the device
+  abbrev pub end_there : Item → ℕ
+  end_there (Ran x) = end_on x.0
+  end_there (Failed e k) = 0
+  end_there (Back e k) = 0
+
+  -- .. and the one of the whole run, where it is waited for
+  abbrev pub end_awaited : Item → ℕ
+  end_awaited (Ran x) = end_whole x.0
+  end_awaited (Failed e k) = 0
+  end_awaited (Back e k) = 0
+
   abbrev end_of : Item → ℕ
   end_of (Ran x) = max (end_on x.0) (end_whole x.0)
   end_of (Failed e k) = 0
   end_of (Back e k) = 0
 
-  free_more : (front : List Item) (i : Item) → free w n r (front ++ i ∷ []) d ≡ max (free w n r front d) (end_of i)
-  free_more front i = fold-append (λ t j. max t (end_of j)) 0 front (i ∷ [])
+  both_there : (i : Item) → end_of i ≡ max (end_there i) (end_awaited i)
+  both_there (Ran x) = refl
+  both_there (Failed e k) = refl
+  both_there (Back e k) = refl
 
-  pub failed_free : (front : List Item) (e : DeviceNo) (k : ℕ) → free w n r (front ++ Failed e k ∷ []) d ≡ free w n r front d
-  failed_free front e k = free_more front (Failed e k) ∙ max_none (free w n r front d)
-
-  pub back_free : (front : List Item) (e : DeviceNo) (k : ℕ) → free w n r (front ++ Back e k ∷ []) d ≡ free w n r front d
-  back_free front e k = free_more front (Back e k) ∙ max_none (free w n r front d)
-
-  -- a run whose access is passed
+  -- the device is free behind these items when none of them holds it, and none is waited for
+  pub free_is : (front : List Item) → fold (λ t i. max t (end_awaited i)) (fold (λ t i. max t (end_there i)) 0 front) front ≡ free w n r front d
+  free_is front = ap (λ t. fold (λ u i. max u (end_awaited i)) t front) (sym (none_max (fold (λ t i. max t (end_there i)) 0 front))) ∙ both_ends end_there end_awaited end_of both_there front 0 0
 
   -- the access tells whether the run is open
   own_end : (q : ℕ) (x : Access) (rest : List Access) (t : ℕ) → x.run.0 ≡ q → TellsOfRun (point w n g) d x rest → uses w n d q ≡ true → (if is_doomed n q || is_released x.status then t else max t x.to) ≡ max t (end_on q)
@@ -200,31 +236,101 @@ module _ (w : Setting) (n : Reading) (g : Grips) (f : Facts w n g) (r d : ℕ) w
       at : uses w n d x.run.0 ≡ true → (if is_doomed n x.run.0 || is_released x.status then t else max t x.to) ≡ max t (end_on x.run.0)
       at used = by_doom (is_doomed n x.run.0) (is_released x.status) refl refl used
 
-  -- the device behind the run alone
-  passed : (front is : List Item) (q : RunNo) (xs : List Access) (s : Slot) (doomed : Bool) → HasAccess w n g f d (Ran q) is → doomed ≡ is_doomed n q.0 → s.free ≡ free w n r front d → Found w n g d q.0 is xs
-      → (slot_behind doomed (access_of q.0 xs) s).free ≡ max (free w n r front d) (end_on q.0)
-  passed front is q xs s doomed has doom time (Own x rest found its own tells) =
-      ap (λ o. (slot_behind doomed o s).free) found
-      ∙ ap (λ b. if b || is_released x.status then s.free else max s.free x.to) doom ∙ own_end q.0 x rest s.free own tells (and_parts (uses w n d q.0) (not (list_any (covers n d) is)) its).0 ∙ ap (λ t. max t (end_on q.0)) time
-  passed front is q xs s doomed has doom time (Other none lacks) =
-      ap (λ o. (slot_behind doomed o s).free) none
-      ∙ time ∙ sym (ap (λ b. max (free w n r front d) (if b then planned_end (n.run q.0).planned d else 0)) (closed (is_open w n q.0 d) refl) ∙ max_none (free w n r front d))
+  -- a run with no access holds nothing
+  no_end : (q : RunNo) (is : List Item) → HasAccess w n g f d (Ran q) is → (uses w n d q.0 && not (list_any (covers n d) is)) ≡ false → end_on q.0 ≡ 0
+  no_end q is has lacks = ap (λ b. if b then planned_end (n.run q.0).planned d else 0) (closed (is_open w n q.0 d) refl)
     where
       closed : (b : Bool) → is_open w n q.0 d ≡ b → b ≡ false
       closed true e = let some : (uses w n d q.0 && not (list_any (covers n d) is)) ≡ true = has (ap (λ b. b || (is_live n q.0 && has_effect n g q.0 d)) e) in absurd (cc (some, lacks))
       closed false e = refl
 
-  -- .. and behind it where whole runs are waited for
-  pub run_free : (front is : List Item) (q : RunNo) (xs : List Access) (s : Slot) (doomed : Bool) (whole : ℕ) → HasAccess w n g f d (Ran q) is → doomed ≡ is_doomed n q.0
-      → (reads_first w.runs r d ≡ true → whole ≡ (if is_live n q.0 then whole_end w n q.0 else 0)) → Found w n g d q.0 is xs
-      → s.free ≡ free w n r front d → (slot_waiting w.runs r q.0 whole d (slot_behind doomed (access_of q.0 xs) s)).free ≡ free w n r (front ++ Ran q ∷ []) d
-  run_free front is q xs s doomed whole has doom ends found was =
-      waits_to (nat_lt t.free whole && (reads_first w.runs r d && writes_on w.runs q.0 d)) ∙ later_of t.free (whole_end w n q.0) (is_live n q.0) (reads_first w.runs r d) (writes_on w.runs q.0 d) whole ends
-      ∙ ap (λ k. max k (end_whole q.0)) (passed front is q xs s doomed has doom was found) ∙ max_both (free w n r front d) (end_on q.0) (end_whole q.0) ∙ sym (free_more front (Ran q))
-    where
-      t : Slot
-      t = slot_behind doomed (access_of q.0 xs) s
+  module _ (counts : ℕ → Bool) where
+    -- the runs of these items are counted where they are in the set, and not doomed
+    abbrev CountsIn : List Item → List Item → Type 0
+    CountsIn is set = (q : RunNo) → list_any (is_ran q.0) is ≡ true → counts q.0 ≡ (list_any (is_ran q.0) set && not (is_doomed n q.0))
 
-      waits_to : (b : Bool) → (if b then record t { free = whole } else t).free ≡ (if b then whole else t.free)
+    -- the accesses of these items have the latest planned end of the set
+    abbrev HaveEnd : List Item → List Item → Type 0
+    HaveEnd is set = (xs : List Access) (t : ℕ) → map (λ x. x.run.0) xs ≡ runs_with_access w n d is → EachTellsOfRun (point w n g) d xs → fold (later_end counts) t xs ≡ fold (λ u i. max u (end_there i)) t set
+
+    counts_tail : (i : Item) (is set : List Item) (b : Bool) → Alone i is → CountsIn (i ∷ is) (if b then i ∷ set else set) → CountsIn is set
+    counts_tail i is set b alone counted q among = counted q (or_right (is_ran q.0 i) (list_any (is_ran q.0) is) among) ∙ ap (λ c. c && not (is_doomed n q.0)) (at b (is_ran q.0 i) refl)
+      where
+        at : (c e : Bool) → is_ran q.0 i ≡ e → list_any (is_ran q.0) (if c then i ∷ set else set) ≡ list_any (is_ran q.0) set
+        at true true own = absurd (cc (alone q.0 own, among))
+        at true false other = ap (λ e. e || list_any (is_ran q.0) set) other
+        at false e own = refl
+
+    -- an item that holds nothing
+    with_none : (i : Item) (set : List Item) (b : Bool) (t : ℕ) → end_there i ≡ 0 → fold (λ u j. max u (end_there j)) t set ≡ fold (λ u j. max u (end_there j)) t (if b then i ∷ set else set)
+    with_none i set true t none = ap (λ u. fold (λ v j. max v (end_there j)) u set) (sym (ap (max t) none ∙ max_none t))
+    with_none i set false t none = refl
+
+    -- one item more
+    end_more : (i : Item) (is set : List Item) (b : Bool) → HasAccess w n g f d i is → ((q : ℕ) → is_ran q i ≡ true → list_any (is_ran q) set ≡ false) → CountsIn (i ∷ is) (if b then i ∷ set else set) → HaveEnd is set → HaveEnd (i ∷ is) (if b then i ∷ set else set)
+    end_more (Failed e k) is set b has apart counted rest xs t runs each = rest xs t runs each ∙ with_none (Failed e k) set b t refl
+    end_more (Back e k) is set b has apart counted rest xs t runs each = rest xs t runs each ∙ with_none (Back e k) set b t refl
+    end_more (Ran p) is set b has apart counted rest xs t runs each = by_access (uses w n d p.0 && not (list_any (covers n d) is)) refl xs runs each
+      where
+        mine : (c : Bool) → list_any (is_ran p.0) (if c then Ran p ∷ set else set) ≡ c
+        mine true = or_left (p.0 == p.0) (list_any (is_ran p.0) set) (eq-eqb p.0 p.0 refl)
+        mine false = apart p.0 (eq-eqb p.0 p.0 refl)
+
+        counts_own : counts p.0 ≡ (b && not (is_doomed n p.0))
+        counts_own = counted p (or_left (p.0 == p.0) (list_any (is_ran p.0) is) (eq-eqb p.0 p.0 refl)) ∙ ap (λ c. c && not (is_doomed n p.0)) (mine b)
+
+        turned : (a c : Bool) (s u : ℕ) → (if not a && (true && not c) then s else u) ≡ (if c || a then u else s)
+        turned true true s u = refl
+        turned true false s u = refl
+        turned false true s u = refl
+        turned false false s u = refl
+
+        passed_by : (a : Bool) (s : ℕ) → (if not a && false then s else t) ≡ t
+        passed_by true s = refl
+        passed_by false s = refl
+
+        here : (x : Access) (ys : List Access) → x.run.0 ≡ p.0 → TellsOfRun (point w n g) d x ys → uses w n d p.0 ≡ true → (c : Bool) → (if not (is_released x.status) && (c && not (is_doomed n p.0)) then max t x.to else t) ≡ (if c then max t (end_on p.0) else t)
+        here x ys own tells used true = turned (is_released x.status) (is_doomed n p.0) (max t x.to) t ∙ own_end p.0 x ys t own tells used
+        here x ys own tells used false = passed_by (is_released x.status) (max t x.to)
+
+        behind : (c : Bool) → fold (λ u j. max u (end_there j)) (if c then max t (end_on p.0) else t) set ≡ fold (λ u j. max u (end_there j)) t (if c then Ran p ∷ set else set)
+        behind true = refl
+        behind false = refl
+
+        by_access : (u : Bool) → (uses w n d p.0 && not (list_any (covers n d) is)) ≡ u → (ys : List Access) → map (λ x. x.run.0) ys ≡ (if u then (p.0 ∷ runs_with_access w n d is) else runs_with_access w n d is) → EachTellsOfRun (point w n g) d ys
+            → fold (later_end counts) t ys ≡ fold (λ v i. max v (end_there i)) t (if b then Ran p ∷ set else set)
+        by_access false lacks ys all tell = rest ys t all tell ∙ with_none (Ran p) set b t (no_end p is has lacks)
+        by_access true used [] all tell = absurd (cc)
+        by_access true used (x ∷ ys) all tell =
+            let own : x.run.0 ≡ p.0 = cc in
+            let others : map (λ a. a.run.0) ys ≡ runs_with_access w n d is = cc in
+            ap (λ u. fold (later_end counts) u ys) (ap (λ c. if not (is_released x.status) && c then max t x.to else t) (ap counts own ∙ counts_own) ∙ here x ys own tell.0 (and_parts (uses w n d p.0) (not (list_any (covers n d) is)) used).0 b)
+            ∙ rest ys (if b then max t (end_on p.0) else t) others tell.1 ∙ behind b
+
+    end_along : (is : List Item) (bs : List Bool) → EachTail Alone is → EachTail (HasAccess w n g f d) is → CountsIn is (chosen bs is) → HaveEnd is (chosen bs is)
+    unfolding chosen
+    end_along [] bs alone has counted [] t runs each = refl
+    end_along [] bs alone has counted (x ∷ xs) t runs each = absurd (cc)
+    end_along (i ∷ is) [] alone has counted xs t runs each =
+        end_more i is [] false has.0 (λ q own. refl) counted (subst (HaveEnd is) (nothing is) (end_along is [] alone.1 has.1 (subst (CountsIn is) (sym (nothing is)) (counts_tail i is [] false alone.0 counted)))) xs t runs each
+      where
+        nothing : (js : List Item) → chosen [] js ≡ []
+        nothing [] = refl
+        nothing (j ∷ js) = refl
+    end_along (i ∷ is) (b ∷ bs) alone has counted xs t runs each =
+        end_more i is (chosen bs is) b has.0 (λ q own. chosen_lacks (is_ran q) bs is (alone.0 q own)) counted (end_along is bs alone.1 has.1 (counts_tail i is (chosen bs is) b alone.0 counted)) xs t runs each
+
+  -- the accesses of the line have the latest planned end of the set
+  pub latest_is : (history : List Kept) (bs : List Bool) (xs : List Access) → ((q : ℕ) → is_some (doom_of history q) ≡ is_doomed n q) → AreOfLine w n g d xs → EachTail Alone n.line → EachTail (HasAccess w n g f d) n.line
+      → latest_end (is_counted history (chosen bs n.line)) xs ≡ fold (λ t i. max t (end_there i)) 0 (chosen bs n.line)
+  latest_is history bs xs dooms all once has =
+      end_along (is_counted history (chosen bs n.line)) n.line bs once has (λ q among. ap (λ b. list_any (is_ran q.0) (chosen bs n.line) && not b) (dooms q.0)) xs 0 all.runs all.each
+
+  -- where the whole run is waited for, the device is free at its end
+  pub awaited_free : (q : RunNo) (s : Slot) (whole : ℕ) → whole ≡ (if is_live n q.0 then whole_end w n q.0 else 0) → (slot_waiting w.runs r q.0 whole d s).free ≡ max s.free (end_awaited (Ran q))
+  awaited_free q s whole is =
+      waits_to (nat_lt s.free whole && (reads_first w.runs r d && writes_on w.runs q.0 d)) ∙ later_of s.free (whole_end w n q.0) (is_live n q.0) (reads_first w.runs r d) (writes_on w.runs q.0 d) whole (λ reading. is)
+    where
+      waits_to : (b : Bool) → (if b then record s { free = whole } else s).free ≡ (if b then whole else s.free)
       waits_to true = refl
       waits_to false = refl

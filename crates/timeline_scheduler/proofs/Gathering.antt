@@ -181,7 +181,7 @@ flag_set flags f x old within was = by_run (f == x) refl
 
 -- Gathering
 
-no_flag : (n x : ℕ) → slice_index_or (replicate n false) x false ≡ false
+pub no_flag : (n x : ℕ) → slice_index_or (replicate n false) x false ≡ false
 no_flag zero x = refl
 no_flag (suc n) zero = refl
 no_flag (suc n) (suc x) = no_flag n x

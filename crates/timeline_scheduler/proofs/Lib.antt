@@ -1,4 +1,5 @@
 mod Closing
+mod CountedRuns
 mod Counting
 mod DeviceWalks
 mod Frees

@@ -4,7 +4,7 @@ pub use Rattle.command_rules.specs.Apart.{are_tied, meet, share_device}
 unfoldable pub use Rattle.command_rules.specs.ClosedSets.{IsClosed, IsPart, chosen, closure, either_of}
 pub use Rattle.command_rules.specs.ClosedSets.{IsLeast}
 pub use Rattle.command_rules.specs.Items.{is_ran, of_run}
-pub use Rattle.command_rules.specs.Rosters.{Run, commands_of, followed_by, follows, is_on, is_run, reads_first, reads_unwritten, runs_of, touches, writes_on}
+pub use Rattle.command_rules.specs.Rosters.{Run, commands_of, followed_by, follows, is_on, is_run, reads_first, runs_of, touches, writes_on}
 pub use Rattle.history_book.proofs.Cited.{among_more, answer_count_is, asks_next, differ, doom_is, end_is, is_among, is_stray, none_strays, stands_in}
 pub use Rattle.history_book.specs.Books.{answer_count, doom_of, end_of}
 pub use Rattle.history_book.specs.Plans.{Planning, free, greatest, is_overwritten, plan_more, planned_end, planned_start, planned_times, whole_end}
@@ -34,8 +34,9 @@ pub use Rattle.std.specs.List.{list_any, range_with_len}
 pub use Rattle.std.specs.Prelude.{Bool, IsSome, IsTrue, List, None, Option, Some, [], count_by, drop, false, filter, find, fold, get_or, if◌then◌else◌, is_none, is_some, length, map, max, min, nat_lt, not, option_map, replicate, slice_get, slice_index_or, slice_set, suc, take, true, unwrap_or, vec_capacity, zero, ℕ, ◌&&◌, ◌++◌, ◌+◌, ◌-◌, ◌<◌, ◌==◌, ◌^◌, ◌||◌, ◌↔◌, ◌∷◌, ◌≡◌, ◌≢◌, ◌≤◌}
 pub use Rattle.timeline_scheduler.specs.Bases.{goes_on, run_binds, seeds}
 pub use Rattle.timeline_scheduler.specs.Gathered.{IsGathered, IsKnown, ItemsAreKnown}
-pub use Rattle.timeline_scheduler.specs.Placings.{InEach, IsEarliestOf, IsLeastOf, IsPlaceOf, IsPlanOf, IsSetOf, MayPlan}
+pub use Rattle.timeline_scheduler.specs.Placings.{IsEarliestOf, IsLeastOf, IsPlanOf, IsSetOf, MayPlan}
 pub use Rattle.timeline_scheduler.specs.PlannedUses.{planned_again, planned_in_turn, planned_use, use_between}
 pub use Rattle.timeline_scheduler.specs.Scratches.{HoldsTimes, ScratchRoom, planned_in, planned_span}
-pub use Rattle.timeline_scheduler.specs.Slots.{RunsAreHomed, changed, changed_on, cleared, devices_among, devices_passed, end_of_access, is_device_followed, is_followed, is_misfit, is_passed, is_with_access, no_slot, overlaps, passed_item, passed_set, plan_behind, reads_some, slot_at, slot_behind, slot_passed, slot_waiting, used_again, whole_passed}
+pub use Rattle.timeline_scheduler.specs.Slots.{RunsAreHomed, changed, changed_on, cleared, devices_among, end_of_access, is_counted, is_misfit, later_end, latest_end, no_slot, overlaps, plan_behind, slot_at, slot_behind, slot_waiting, slots_behind, slots_passed, used_again, waited_item, waited_run, whole_passed}
 pub use Rattle.timeline_scheduler.specs.declared.slots.Slot.{Slot}
+pub use Rattle.history_book.specs.declared.entries.Kept.{Kept}

@@ -1,5 +1,5 @@
 -- The rounds in which the set of a run grows: in each configuration to which the parts belong the last one is the timeline's.
-use Rattle.timeline_scheduler.proofs.Prelude.{Bool, Configuration, HoldsTimes, InEach, IsClosed, IsEarliestOf, IsLeast, IsLeastOf, IsPart, IsPlaceOf, IsPlanOf, IsSetOf, IsStandingOf, List, Mark, ScratchRoom, Slot, Timeline, WindowParts, accesses_at, ap, arith, bars_rise, chosen, closure, closure_closed, closure_holds, closure_least, closure_size, commands_of, count_by, doom_is, doom_of, either_first, either_in, either_of, either_second, either_size, facts_of, free, gap_is_earliest, gap_least, is_doomed, is_live, is_misfit, is_some, items_of, length, length-map, map, map_part, meet, not, of_run, or_right, part_of_part, passed_set, plan_behind, planned_times, read_of, reads_some, refl, same_least, scheduler_of, seeds, slot_at, subst, sym, touches, true, ℕ, ◌<◌, ◌∙◌, ◌≡◌, ◌≤◌}
+use Rattle.timeline_scheduler.proofs.Prelude.{Bool, Configuration, HoldsTimes, IsClosed, IsLeast, IsPart, IsStandingOf, List, Mark, ScratchRoom, Slot, Timeline, WindowParts, accesses_at, ap, arith, bars_rise, chosen, closure, closure_closed, closure_holds, closure_least, closure_size, commands_of, count_by, doom_is, doom_of, either_first, either_in, either_of, either_second, either_size, facts_of, free, gap_is_earliest, gap_least, is_doomed, is_live, is_misfit, is_some, items_of, length, length-map, map, map_part, meet, not, of_run, part_of_part, plan_behind, planned_times, read_of, refl, same_least, scheduler_of, seeds, slot_at, slots_behind, subst, sym, touches, true, ℕ, ◌<◌, ◌∙◌, ◌≡◌, ◌≤◌}
 use Rattle.history_book.specs.Gaps.{bars, base_of, gap_set, is_needed}
 use Rattle.lock_leasing.specs.Places.{IsEarliestSet}
 use Rattle.timeline_scheduler.proofs.Counting.{count_chosen, count_within, outside_part}
@@ -8,6 +8,7 @@ use Rattle.timeline_scheduler.proofs.KnownItems.{device_within}
 use Rattle.timeline_scheduler.proofs.Misfits.{misfits_are, needed_based, times_held, times_told}
 use Rattle.timeline_scheduler.proofs.Needs.{base_is, seeds_length}
 use Rattle.timeline_scheduler.proofs.Passes.{set_free}
+use Rattle.timeline_scheduler.specs.Placings.{InEach, IsEarliestOf, IsLeastOf, IsPlaceOf, IsPlanOf, IsSetOf}
 
 module _ (parts : WindowParts) (r m : ℕ) where
   of_line : (s : Configuration) → IsStandingOf s parts → (d : ℕ) → d < length s.setting.first → AreOfLine s.setting (read_of s) s.grips d (accesses_at parts.table d)
@@ -17,21 +18,21 @@ module _ (parts : WindowParts) (r m : ℕ) where
   abbrev pub IsPlannedBehind : List Bool → List Slot → Type 0
   IsPlannedBehind before slots = InEach parts (λ s. HoldsTimes slots (planned_times s.setting (read_of s) r (chosen before (read_of s).line) m))
 
-  pub plan_told : (before : List Bool) (slots planned : List Slot) → length slots ≡ length parts.table → HoldsTimes planned (plan_behind (passed_set parts.table parts.history parts.runs r (chosen before (items_of parts.line)) slots) (commands_of parts.runs r) m) → IsPlannedBehind before planned
+  pub plan_told : (before : List Bool) (slots planned : List Slot) → length slots ≡ length parts.table → HoldsTimes planned (plan_behind (slots_behind parts.table parts.history parts.runs r (chosen before (items_of parts.line)) slots) (commands_of parts.runs r) m) → IsPlannedBehind before planned
   plan_told before slots planned size holds s stands timed =
       subst (HoldsTimes planned)
-      (ap (λ is. plan_behind (passed_set parts.table parts.history parts.runs r (chosen before is) slots) (commands_of parts.runs r) m) stands.its_line.items
-      ∙ ap (λ rs. plan_behind (passed_set parts.table parts.history rs r (chosen before (read_of s).line) slots) (commands_of rs r) m) (sym stands.its_roster)
-      ∙ times_told s.setting (read_of s) r m (chosen before (read_of s).line) (passed_set parts.table parts.history s.setting.runs r (chosen before (read_of s).line) slots) timed free_told)
+      (ap (λ is. plan_behind (slots_behind parts.table parts.history parts.runs r (chosen before is) slots) (commands_of parts.runs r) m) stands.its_line.items
+      ∙ ap (λ rs. plan_behind (slots_behind parts.table parts.history rs r (chosen before (read_of s).line) slots) (commands_of rs r) m) (sym stands.its_roster)
+      ∙ times_told s.setting (read_of s) r m (chosen before (read_of s).line) (slots_behind parts.table parts.history s.setting.runs r (chosen before (read_of s).line) slots) timed free_told)
       holds
     where
       dooms : (q : ℕ) → is_some (doom_of parts.history q) ≡ is_doomed (read_of s) q
       dooms q = ap is_some (ap (λ h. doom_of h q) (sym stands.its_history) ∙ doom_is s.setting s.history q stands.well_formed)
 
-      free_told : (d : ℕ) → touches s.setting.runs r d ≡ true → (slot_at (passed_set parts.table parts.history s.setting.runs r (chosen before (read_of s).line) slots) d).free ≡ free s.setting (read_of s) r (chosen before (read_of s).line) d
+      free_told : (d : ℕ) → touches s.setting.runs r d ≡ true → (slot_at (slots_behind parts.table parts.history s.setting.runs r (chosen before (read_of s).line) slots) d).free ≡ free s.setting (read_of s) r (chosen before (read_of s).line) d
       free_told d on =
           set_free s.setting (read_of s) s.grips (facts_of s parts stands) r parts.table parts.history stands.its_table.devices (of_line s stands) dooms before slots size
-          d (device_within parts r s stands r d on) (or_right (reads_some s.setting.runs r) (touches s.setting.runs r d) on)
+          d (device_within parts r s stands r d on) on
 
   -- what is taken in for a configuration
   pub record IsGrown (before : List Bool) (s : Configuration) : Type 0 where
@@ -51,7 +52,7 @@ module _ (parts : WindowParts) (r m : ℕ) where
 
   -- the first one
   pub first_round : (before : List Bool) (slots planned : List Slot) → before ≡ closure (meet parts.runs) (seeds parts.history parts.runs r parts.line) (items_of parts.line) → length slots ≡ length parts.table → length planned ≡ length slots
-      → HoldsTimes planned (plan_behind (passed_set parts.table parts.history parts.runs r (chosen before (items_of parts.line)) slots) (commands_of parts.runs r) m) → IsRound before planned
+      → HoldsTimes planned (plan_behind (slots_behind parts.table parts.history parts.runs r (chosen before (items_of parts.line)) slots) (commands_of parts.runs r) m) → IsRound before planned
   first_round before slots planned is size long holds = record {
     size = long ∙ size;
     flags = ap length is ∙ closure_size (meet parts.runs) (seeds parts.history parts.runs r parts.line) (items_of parts.line) ∙ items_length;
@@ -97,7 +98,7 @@ module _ (parts : WindowParts) (r m : ℕ) where
 
   -- .. and the next one, where some do not fit
   pub next_round : (before found after : List Bool) (slots planned : List Slot) → IsRound before slots → found ≡ either_of before (misfits slots) → after ≡ closure (meet parts.runs) found (items_of parts.line) → length planned ≡ length slots
-      → HoldsTimes planned (plan_behind (passed_set parts.table parts.history parts.runs r (chosen after (items_of parts.line)) slots) (commands_of parts.runs r) m) → IsRound after planned
+      → HoldsTimes planned (plan_behind (slots_behind parts.table parts.history parts.runs r (chosen after (items_of parts.line)) slots) (commands_of parts.runs r) m) → IsRound after planned
   next_round before found after slots planned was found_is is long holds = record {
     size = long ∙ was.size;
     flags = ap length is ∙ closure_size (meet parts.runs) found (items_of parts.line) ∙ items_length;
@@ -129,7 +130,7 @@ module _ (parts : WindowParts) (r m : ℕ) where
           least = gap_least s.setting (read_of s) r m
 
   abbrev Times : List Bool → List Slot → List Slot → Type 0
-  Times before slots planned = HoldsTimes planned (plan_behind (passed_set parts.table parts.history parts.runs r (chosen before (items_of parts.line)) slots) (commands_of parts.runs r) m)
+  Times before slots planned = HoldsTimes planned (plan_behind (slots_behind parts.table parts.history parts.runs r (chosen before (items_of parts.line)) slots) (commands_of parts.runs r) m)
 
   -- the first round, as the scratch passes through it
   pub first_of : (old seeded closed planned : ScratchRoom) → seeded ≡ record old { before = seeds parts.history parts.runs r parts.line } → closed ≡ record seeded { before = closure (meet parts.runs) seeded.before (items_of parts.line) } → planned ≡ record closed { slots = planned.slots }

@@ -1,6 +1,8 @@
 -- The next accesses of a run tell the planned end of the whole run.
-use Rattle.timeline_scheduler.proofs.Prelude.{Access, Alone, Bool, EachTail, Grips, Item, LineageState, List, Option, Ran, Reading, RunNo, Setting, [], access_of, accesses_at, ap, arith, common_steps, cond, covers, end_of_access, eq-eqb, false, filter, fold, has_access, if◌then◌else◌, is_live, is_overwritten, is_passed, is_ran, length, list_any, max, not, passed_by, planned_end, range_with_len, reads_some, refl, suc, sym, touches, true, whole_end, whole_passed, zero, ℕ, ◌&&◌, ◌++◌, ◌+◌, ◌<◌, ◌||◌, ◌∙◌, ◌∷◌, ◌≡◌}
+use Rattle.timeline_scheduler.proofs.Prelude.{Alone, Bool, EachTail, Grips, Item, LineageState, List, Option, Ran, Reading, RunNo, Setting, [], access_of, accesses_at, ap, arith, common_steps, cond, end_of_access, eq-eqb, false, filter, fold, has_access, if◌then◌else◌, is_live, is_overwritten, is_ran, length, list_any, max, not, passed_by, planned_end, range_with_len, refl, suc, sym, touches, true, whole_end, whole_passed, zero, ℕ, ◌&&◌, ◌++◌, ◌+◌, ◌<◌, ◌∙◌, ◌∷◌, ◌≡◌}
 use Rattle.history_book.specs.Lines.{behind}
+use Rattle.lineage_table.specs.declared.accesses.Access.{Access}
+use Rattle.lock_leasing.specs.Order.{covers}
 use Rattle.timeline_scheduler.proofs.Frees.{AreOfLine, Found, Other, Own, any_behind, found_in, max_none, none_of}
 
 -- Folds
@@ -31,14 +33,14 @@ behind_is q (i ∷ front) is alone = by_test (is_ran q.0 i) refl (behind_is q fr
     by_test true e rest = absurd (cc (alone.0 q.0 e, any_behind q front is))
     by_test false e rest = rest
 
-module _ (w : Setting) (n : Reading) (g : Grips) (r : ℕ) (table : List LineageState) (q : RunNo) (front is : List Item) (cut : n.line ≡ front ++ Ran q ∷ is)
+module _ (w : Setting) (n : Reading) (g : Grips) (table : List LineageState) (q : RunNo) (front is : List Item) (cut : n.line ≡ front ++ Ran q ∷ is)
     (alone : EachTail Alone (front ++ Ran q ∷ is)) (size : length table ≡ length w.first)
-    (reads : reads_some w.runs r ≡ true) (lines : (d : ℕ) → d < length w.first → AreOfLine w n g d (accesses_at table d)) where
+    (lines : (d : ℕ) → d < length w.first → AreOfLine w n g d (accesses_at table d)) where
   abbrev next : ℕ → Option Access
   next d = access_of q.0 (accesses_at table d)
 
   abbrev has : ℕ → Bool
-  has d = is_passed table w.runs r q.0 d
+  has d = has_access q.0 (accesses_at table d)
 
   abbrev counts : ℕ → Bool
   counts d = not (passed_by w n q.0 d) && not (is_overwritten n q.0 d)
@@ -50,9 +52,9 @@ module _ (w : Setting) (n : Reading) (g : Grips) (r : ℕ) (table : List Lineage
   overwritten d = ap (λ l. list_any (covers n d) (behind q.0 l)) cut ∙ ap (list_any (covers n d)) (behind_is q front is alone)
 
   any_next : (t d : ℕ) → (if has d then max t (end_of_access (next d)) else t) ≡ max t (end_of_access (next d))
-  any_next t d = ap (λ b. if has_access q.0 (accesses_at table d) && (b || touches w.runs r d) then max t (end_of_access (next d)) else t) reads ∙ by_test (has_access q.0 (accesses_at table d)) refl
+  any_next t d = by_test (has_access q.0 (accesses_at table d)) refl
     where
-      by_test : (b : Bool) → has_access q.0 (accesses_at table d) ≡ b → (if b && true then max t (end_of_access (next d)) else t) ≡ max t (end_of_access (next d))
+      by_test : (b : Bool) → has_access q.0 (accesses_at table d) ≡ b → (if b then max t (end_of_access (next d)) else t) ≡ max t (end_of_access (next d))
       by_test true e = refl
       by_test false e = sym (ap (λ o. max t (end_of_access o)) (none_of q.0 (accesses_at table d) e) ∙ max_none t)
 
@@ -96,13 +98,13 @@ module _ (w : Setting) (n : Reading) (g : Grips) (r : ℕ) (table : List Lineage
       by_next (Own x rest found its own tells) = absurd (cc (lives (touches w.runs q.0 d) (passed_by w n q.0 d) (list_any (covers n d) is) its, dead))
       by_next (Other none lacks) = ap (λ o. max t (end_of_access o)) none ∙ max_none t
 
-  by_devices : whole_passed table w.runs r q.0 ≡ fold (λ t d. max t (end_of_access (next d))) 0 (range_with_len 0 (length w.first))
+  by_devices : whole_passed table q.0 ≡ fold (λ t d. max t (end_of_access (next d))) 0 (range_with_len 0 (length w.first))
   by_devices =
       fold_filter (λ t d. max t (end_of_access (next d))) has 0 (range_with_len 0 (length table))
       ∙ ap (λ k. fold (λ t d. if has d then max t (end_of_access (next d)) else t) 0 (range_with_len 0 k)) size
       ∙ fold_alike (λ t d. if has d then max t (end_of_access (next d)) else t) (λ t d. max t (end_of_access (next d))) 0 (length w.first) (λ t d within. any_next t d) 0
 
-  pub whole_is : whole_passed table w.runs r q.0 ≡ (if is_live n q.0 then whole_end w n q.0 else 0)
+  pub whole_is : whole_passed table q.0 ≡ (if is_live n q.0 then whole_end w n q.0 else 0)
   whole_is = by_devices ∙ by_live (is_live n q.0) refl
     where
       by_live : (b : Bool) → is_live n q.0 ≡ b → fold (λ t d. max t (end_of_access (next d))) 0 (range_with_len 0 (length w.first)) ≡ (if b then whole_end w n q.0 else 0)

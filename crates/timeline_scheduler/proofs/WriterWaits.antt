@@ -1,7 +1,7 @@
 -- The devices on which a run waits for one that writes them.
-use Rattle.timeline_scheduler.proofs.Prelude.{Bool, Devices, IsFirstFrom, List, None, Run, RunsAreHomed, Slot, Some, ap, arith, changed, common_steps, devices_among, false, filter, if◌then◌else◌, length, max, nat_lt, range_with_len, read_touched, reads_first, refl, slot_waiting, sym, touches, true, writes_on, ℕ, ◌&&◌, ◌-◌, ◌<◌, ◌∙◌, ◌≡◌}
+use Rattle.timeline_scheduler.proofs.Prelude.{Bool, Devices, IsFirstFrom, List, None, Run, RunsAreHomed, Slot, Some, ap, arith, changed, changed_on, common_steps, devices_among, false, filter, if◌then◌else◌, length, max, nat_lt, range_with_len, read_touched, reads_first, refl, slot_waiting, sym, touches, true, writes_on, ℕ, ◌&&◌, ◌-◌, ◌<◌, ◌∙◌, ◌≡◌}
 use Rattle.std.specs.FinSet as set
-use Rattle.timeline_scheduler.proofs.DeviceWalks.{rest}
+use Rattle.timeline_scheduler.proofs.DeviceWalks.{fold_done, rest}
 use Rattle.timeline_scheduler.proofs.SlotSets.{changed_fewer}
 
 -- r reads the device first, and x writes it
@@ -36,6 +36,11 @@ module _ (runs : List Run) (r x : ℕ) where
   waits_alone whole n slots size =
       let all : n - 0 ≡ n = omega arith in
       ap (λ k. changed (slot_waiting runs r x whole) (filter (waits_for runs r x) (range_with_len 0 k)) slots) all ∙ changed_fewer (slot_waiting runs r x whole) (touches runs r) (waits_for runs r x) waits_touched (stays whole) n slots size
+
+  -- where it waits on none, all stay
+  pub waits_none : (whole : ℕ) (slots : List Slot) → IsFirstFrom (waits_for runs r x) 0 None → slots ≡ changed (slot_waiting runs r x whole) (devices_among runs r (length slots)) slots
+  waits_none whole slots none =
+      fold_done (changed_on (slot_waiting runs r x whole)) (waits_for runs r x) (changed (slot_waiting runs r x whole) (rest (waits_for runs r x) (length slots) 0) slots) (length slots) 0 slots none refl ∙ waits_alone whole (length slots) slots refl
 
   module _ (waiting : Devices) (are : (d : ℕ) → set.contains waiting d ≡ waits_for runs r x d) where
     -- what a walk over the set finds

@@ -1,12 +1,11 @@
 -- What the slots of a scratch become as items of the line are passed, and as a run is planned
 -- behind them; which runs outside do not fit.
-use Rattle.command_rules.specs.Rosters.{Run, commands_of, reads_first, touches, writes_on}
+use Rattle.command_rules.specs.Items.{is_ran}
+use Rattle.command_rules.specs.Rosters.{Run, reads_first, touches, writes_on}
 use Rattle.history_book.specs.Books.{doom_of}
 use Rattle.history_book.specs.Plans.{plan_more}
 use Rattle.history_book.specs.Readings.{Planned}
 use Rattle.history_book.specs.declared.entries.Kept.{Kept}
-use Rattle.home_types.specs.Commands.{reads}
-use Rattle.home_types.specs.DeviceSets.{Devices}
 use Rattle.home_types.specs.Numbers.{DeviceId, Moment, RunId}
 use Rattle.home_types.specs.declared.commands.Command.{Command}
 use Rattle.home_types.specs.declared.items.Item.TheVariants.{Back, Failed, Ran}
@@ -14,9 +13,8 @@ use Rattle.home_types.specs.declared.items.Item.{Item}
 use Rattle.lineage_table.specs.Accesses.{access_of, has_access, is_released}
 use Rattle.lineage_table.specs.Lineages.{LineageState, accesses_at}
 use Rattle.lineage_table.specs.declared.accesses.Access.{Access}
-use Rattle.std.specs.FinSet as set
 use Rattle.std.specs.List.{list_any, range_with_len}
-use Rattle.std.specs.Prelude.{Bool, List, None, Option, Some, [], false, filter, fold, if◌then◌else◌, is_some, length, map, max, nat_lt, slice_index_or, slice_set, true, ℕ, ◌&&◌, ◌<◌, ◌≡◌, ◌||◌}
+use Rattle.std.specs.Prelude.{Bool, List, None, Option, Some, [], false, filter, fold, if◌then◌else◌, is_some, length, map, max, nat_lt, not, slice_index_or, slice_set, true, ℕ, ◌&&◌, ◌<◌, ◌≡◌}
 use Rattle.timeline_scheduler.specs.declared.slots.Slot.{Slot}
 
 -- Slots
@@ -43,55 +41,31 @@ RunsAreHomed devices runs = (x : RunId) (d : DeviceId) → touches runs x d ≡ 
 abbrev pub devices_among : List Run → RunId → ℕ → List DeviceId
 devices_among runs r devices = filter (touches runs r) (range_with_len 0 devices)
 
--- the run begins on some device with a read
-abbrev pub reads_some : List Run → RunId → Bool
-reads_some runs r =
-    list_any (λ c. reads c.job && reads_first runs r c.device.0) (commands_of runs r)
+-- Behind the items of a set
 
--- the plan of r needs to know of the device: it is of its footprint, or r waits for whole runs
-abbrev pub is_followed : List Run → RunId → DeviceId → Bool
-is_followed runs r d = reads_some runs r || touches runs r d
+-- the run is among these items, and not doomed
+abbrev pub is_counted : List Kept → List Item → RunId → Bool
+is_counted history items x = list_any (is_ran x) items && not (is_some (doom_of history x))
 
--- these devices are followed, all where none are named
-abbrev pub is_device_followed : Option Devices → DeviceId → Bool
-is_device_followed None d = true
-is_device_followed (Some devices) d = set.contains devices d
+-- the latest planned end with this access, where it was this one without it: that of runs that are
+-- counted and are not done with the device
+abbrev pub later_end : (RunId → Bool) → Moment → Access → Moment
+later_end counted end a =
+    if not (is_released a.status) && counted a.run.0 then max end a.to else end
 
--- the device is one of these, of those to which x has an access where none are named
-abbrev pub is_with_access : List LineageState → RunId → Option Devices → DeviceId → Bool
-is_with_access table x None d = has_access x (accesses_at table d)
-is_with_access table x (Some devices) d = set.contains devices d
+-- .. of all of these accesses
+abbrev pub latest_end : (RunId → Bool) → List Access → Moment
+latest_end counted accesses = fold (later_end counted) 0 accesses
 
-abbrev pub AreFollowed : List Run → RunId → Option Devices → Type 0
-AreFollowed runs r devices = (d : DeviceId) → is_device_followed devices d ≡ is_followed runs r d
-
--- x has an access to the device, which is followed
-abbrev pub is_passed : List LineageState → List Run → RunId → RunId → DeviceId → Bool
-is_passed table runs r x d = has_access x (accesses_at table d) && is_followed runs r d
-
--- .. those of the table
-abbrev pub devices_passed : List LineageState → List Run → RunId → RunId → List DeviceId
-devices_passed table runs r x = filter (is_passed table runs r x) (range_with_len 0 (length table))
-
--- An item is passed
-
--- behind this access the device is free at its planned end, unless its run is done with it, or is
--- doomed
-abbrev pub slot_behind : Bool → Option Access → Slot → Slot
-slot_behind doomed None slot = slot
-slot_behind doomed (Some a) slot = record {
-  free = if doomed || is_released a.status then slot.free else max slot.free a.to;
-  planned = slot.planned;
-}
+-- the device is free then
+abbrev pub slot_behind : List LineageState → (RunId → Bool) → DeviceId → Slot → Slot
+slot_behind table counted d slot =
+    record slot { free = latest_end counted (accesses_at table d) }
 
 -- the planned end of the access, where there is one
 abbrev pub end_of_access : Option Access → Moment
 end_of_access None = 0
 end_of_access (Some a) = a.to
-
--- the access of the run to the device is passed
-abbrev pub slot_passed : List LineageState → Bool → RunId → DeviceId → Slot → Slot
-slot_passed table doomed x d slot = slot_behind doomed (access_of x (accesses_at table d)) slot
 
 -- where r begins on the device with a read, and x writes it, it is free at the planned end of the
 -- whole of x
@@ -109,36 +83,36 @@ abbrev pub changed : (DeviceId → Slot → Slot) → List DeviceId → List Slo
 changed change devices slots = fold (changed_on change) slots devices
 
 -- the planned end of the whole run, by its accesses
-abbrev pub whole_passed : List LineageState → List Run → RunId → RunId → Moment
-whole_passed table runs r x =
+abbrev pub whole_passed : List LineageState → RunId → Moment
+whole_passed table x =
     fold (λ t d. max t (end_of_access (access_of x (accesses_at table d)))) 0
-    (devices_passed table runs r x)
+    (filter (λ d. has_access x (accesses_at table d)) (range_with_len 0 (length table)))
 
--- the run stands before r
-abbrev pub passed_run : List LineageState → List Kept → List Run → RunId → RunId
-    → List Slot → List Slot
-passed_run table history runs r x slots =
-    waited (whole_passed table runs r x) (changed
-    (slot_passed table (is_some (doom_of history x)) x) (devices_passed table runs r x) slots)
-  where
-    waited : Moment → List Slot → List Slot
-    waited whole passed =
-        if nat_lt 0 whole
-        then changed (slot_waiting runs r x whole) (devices_among runs r (length passed)) passed
-        else passed
+-- x stands before r, which waits for it where it is such a run
+abbrev pub waited_run : List LineageState → List Run → RunId → RunId → List Slot → List Slot
+waited_run table runs r x slots =
+    changed (slot_waiting runs r x (whole_passed table x)) (devices_among runs r (length slots))
+    slots
 
 -- the item does
-abbrev pub passed_item : List LineageState → List Kept → List Run → RunId → Item
-    → List Slot → List Slot
-passed_item table history runs r (Ran x) slots = passed_run table history runs r x.0 slots
-passed_item table history runs r (Failed d k) slots = slots
-passed_item table history runs r (Back d k) slots = slots
+abbrev pub waited_item : List LineageState → List Run → RunId → Item → List Slot → List Slot
+waited_item table runs r (Ran x) slots = waited_run table runs r x.0 slots
+waited_item table runs r (Failed d k) slots = slots
+waited_item table runs r (Back d k) slots = slots
 
--- all of these items do, and no other
-abbrev pub passed_set : List LineageState → List Kept → List Run → RunId → List Item
+-- each device of r is free when none of these items holds it
+abbrev pub slots_passed : List LineageState → List Kept → List Run → RunId → List Item
     → List Slot → List Slot
-passed_set table history runs r items slots =
-    fold (λ ss i. passed_item table history runs r i ss) (cleared slots) items
+slots_passed table history runs r items slots =
+    changed (slot_behind table (is_counted history items)) (devices_among runs r (length slots))
+    (cleared slots)
+
+-- .. and none that r waits for: all of these stand before r, and no other
+abbrev pub slots_behind : List LineageState → List Kept → List Run → RunId → List Item
+    → List Slot → List Slot
+slots_behind table history runs r items slots =
+    fold (λ ss i. waited_item table runs r i ss)
+    (slots_passed table history runs r items slots) items
 
 -- A plan
 

@@ -11,7 +11,7 @@ use command_rules::IndexedRoster;
 use home_types::{DeviceSet, Item, RunNo, limits};
 
 /// The places that are kept: one for each run that a window may have, by its number.
-const PLACES: usize = limits::RUNS as usize + 1;
+pub(crate) const PLACES: usize = limits::RUNS as usize + 1;
 
 /// Some items: their devices, the runs among them, and the runs that these follow.
 #[derive(Drop)]

@@ -1,12 +1,9 @@
 //! The timeline's place of a run: behind the least set of items with which its plan fits.
-ghost use Rattle.std.specs.Prelude.{◌≡◌, ◌≤◌, IsTrue, length, option_map};
-ghost use Rattle.command_rules.specs.Rosters.{is_run, runs_of};
+ghost use Rattle.std.specs.Prelude.{◌≡◌, ◌≤◌, length};
 ghost use Rattle.timeline_scheduler.specs.Placings.{IsEarliestOf, IsLeastOf, IsPlaceOf, IsPlanOf, IsSetOf, MayPlan};
-ghost use Rattle.timeline_scheduler.specs.Slots.{AreFollowed, reads_some};
 
 use crate::scratches::Scratch;
-use command_rules::{IndexedRoster, reads};
-use home_types::{DeviceSet, RunNo};
+use home_types::RunNo;
 use lock_leasing::Standing;
 
 /// The place in the line, counted from 0, where `r` is placed at this moment, in ms, once the items
@@ -18,8 +15,8 @@ use lock_leasing::Standing;
 ///
 /// The four parts belong to one window, whose model is not the weak one and whose runs are placed
 /// by the timeline, and `r` is in its roster; the scratch was opened for the table's number of
-/// devices, and for no fewer items than the line has. Takes no memory, and goes over the line three
-/// times, and again each time that the set grows.
+/// devices, and for no fewer items than the line has. Takes no memory. Goes over the line five times,
+/// and over the accesses to the run's devices, and again each time that the set grows.
 pub fn place(s: &Standing, r: RunNo, moment: u64, scratch: &mut Scratch) -> u32
     requires may { MayPlan s.now r.0 }
     requires room { length scratch.old.slots ≡ length s.now.table }
@@ -34,40 +31,12 @@ pub fn place(s: &Standing, r: RunNo, moment: u64, scratch: &mut Scratch) -> u32
     ensures size { length scratch.new.slots ≡ length scratch.old.slots }
     ensures room_stays { scratch.new.items ≡ scratch.old.items }
 {
-    let followed = followed(s.roster, r);
     scratch.seed(s, r);
     scratch.close(s);
-    scratch.plan(s, r, followed, moment);
+    scratch.plan(s, r, moment);
     'rounds: while scratch.take_misfits(s, r) {
         scratch.close(s);
-        scratch.plan(s, r, followed, moment);
+        scratch.plan(s, r, moment);
     }
     scratch.count()
-}
-
-/// The devices that the plan of the run needs to know of: its own, or all, `None`, where it begins
-/// on one with a read.
-fn followed(roster: &IndexedRoster, r: RunNo) -> Option<&DeviceSet>
-    requires { IsTrue (is_run (runs_of roster.now) r.0) }
-    ensures { AreFollowed (runs_of roster.now) r.0 (option_map (λ b. b.now) result) }
-{
-    if begins_with_read(roster, r) {
-        None
-    } else {
-        Some(roster.devices(r))
-    }
-}
-
-/// Whether the run begins on some device with a read.
-fn begins_with_read(roster: &IndexedRoster, r: RunNo) -> bool
-    requires { IsTrue (is_run (runs_of roster.now) r.0) }
-    ensures { result ≡ reads_some (runs_of roster.now) r.0 }
-{
-    let commands = roster.commands(r);
-    'commands: for command in commands {
-        if reads(command.job) && roster.reads_first(r, command.device) {
-            return true;
-        }
-    }
-    false
 }

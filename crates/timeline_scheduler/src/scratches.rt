@@ -11,13 +11,13 @@ ghost use Rattle.timeline_scheduler.specs.Bases.{seeds};
 ghost use Rattle.timeline_scheduler.specs.Gathered.{ItemsAreKnown};
 ghost use Rattle.timeline_scheduler.specs.PlannedUses.{planned_again, planned_in_turn, planned_use, use_between};
 ghost use Rattle.timeline_scheduler.specs.Scratches.{HoldsTimes, planned_in};
-ghost use Rattle.timeline_scheduler.specs.Slots.{AreFollowed, RunsAreHomed, is_misfit, passed_set, plan_behind};
+ghost use Rattle.timeline_scheduler.specs.Slots.{RunsAreHomed, is_misfit, plan_behind, slots_behind};
 
 use crate::bases::is_needed;
 use crate::gathered::Gathered;
-use crate::slots::Slots;
+use crate::slots::{Slots, counted_runs};
 use history_book::PlannedUse;
-use home_types::{Command, DeviceNo, DeviceSet, NoMemory, RunNo, limits};
+use home_types::{Command, DeviceNo, NoMemory, RunNo, limits};
 use lock_leasing::Standing;
 use std::alloc::Global;
 use std::marker::Model;
@@ -221,28 +221,23 @@ impl Scratch {
     }
 
     /// Plans the run `r` behind the items of the set, its first command from this moment on, in ms.
-    /// These devices are followed, all where none are named.
-    pub(crate) fn plan(&mut self, s: &Standing, r: RunNo, followed: Option<&DeviceSet>, moment: u64)
+    pub(crate) fn plan(&mut self, s: &Standing, r: RunNo, moment: u64)
         requires size { length self.old.slots ≡ length s.now.table }
         requires flags { length self.old.before ≡ length s.now.line }
         requires run { IsTrue (is_run s.now.runs r.0) }
         requires known { ItemsAreKnown s.now.runs (items_of s.now.line) }
         requires homed { RunsAreHomed (length s.now.table) s.now.runs }
-        requires followed { AreFollowed s.now.runs r.0 (option_map (λ b. b.now) followed) }
-        ensures times { HoldsTimes self.new.slots (plan_behind (passed_set s.now.table s.now.history
-            s.now.runs r.0 (chosen self.old.before (items_of s.now.line)) self.old.slots)
-            (commands_of s.now.runs r.0) moment) }
+        ensures times { HoldsTimes self.new.slots (plan_behind (slots_behind s.now.table
+            s.now.history s.now.runs r.0 (chosen self.old.before (items_of s.now.line))
+            self.old.slots) (commands_of s.now.runs r.0) moment) }
         ensures rest { self.new ≡ record self.old { slots = self.new.slots } }
         ensures size { length self.new.slots ≡ length self.old.slots }
     {
+        let before = self.before.as_slice();
+        let counted = counted_runs(s, before);
         self.slots.clear();
-        'items: for at in 0..s.line.len() {
-            if !self.before[at as usize] {
-                continue;
-            }
-            let item = s.line.get(at).unwrap();
-            self.slots.pass(s, r, followed, item);
-        }
+        self.slots.pass(s, r, &counted);
+        self.slots.wait_for_writers(s, r, before);
         self.slots.plan(s.roster, r, moment);
     }
 

@@ -1,22 +1,23 @@
 //! For each device, when it is free behind the items that stand before a run, and when the run is
 //! planned to use it.
-ghost use Rattle.std.specs.FinSet as set;
-ghost use Rattle.std.specs.Prelude.{IfOk, IfSome, IsTrue, None, Some, is_some, length, max, option_map, true, ℕ, ◌&&◌, ◌-◌, ◌<◌, ◌≡◌};
-ghost use Rattle.command_rules.specs.Items.{of_run};
+ghost use Rattle.std.specs.Prelude.{IfNone, IfOk, IfSome, IsTrue, None, Some, false, fold, length, max, slice_index_or, true, ℕ, ◌-◌, ◌<◌, ◌≡◌};
+ghost use Rattle.chain_arena.specs.Chains.{values_of};
+ghost use Rattle.command_rules.specs.ClosedSets.{chosen};
+ghost use Rattle.command_rules.specs.Items.{is_ran, of_run};
 ghost use Rattle.command_rules.specs.Rosters.{commands_of, is_run, runs_of};
-ghost use Rattle.history_book.specs.Books.{doom_of};
-ghost use Rattle.home_types.specs.DeviceSets.{IsFirstFrom};
-ghost use Rattle.home_types.specs.Limits.{most_devices};
+ghost use Rattle.home_types.specs.declared.items.Item.TheVariants.{Ran};
 ghost use Rattle.home_types.specs.declared.items.Item.{Item};
 ghost use Rattle.lineage_table.specs.Accesses.{access_of, has_access};
 ghost use Rattle.lineage_table.specs.Lineages.{accesses_at};
-ghost use Rattle.timeline_scheduler.specs.Gathered.{IsKnown};
+ghost use Rattle.serial_line.specs.Marks.{items_of};
+ghost use Rattle.timeline_scheduler.specs.Gathered.{IsKnown, ItemsAreKnown};
 ghost use Rattle.timeline_scheduler.specs.Scratches.{HoldsTimes, planned_in};
-ghost use Rattle.timeline_scheduler.specs.Slots.{AreFollowed, RunsAreHomed, changed, cleared, devices_among, devices_passed, is_device_followed, is_misfit, is_with_access, overlaps, passed_item, plan_behind, slot_at, slot_behind, slot_passed, slot_waiting, used_again, whole_passed};
+ghost use Rattle.timeline_scheduler.specs.Slots.{RunsAreHomed, changed, cleared, devices_among, is_counted, is_misfit, later_end, latest_end, overlaps, plan_behind, slot_at, slot_behind, slot_waiting, used_again, waited_item, waited_run, whole_passed};
 
-use chain_arena::Knot;
+use crate::gathered::PLACES;
+use chain_arena::{Chain, Knot};
 use command_rules::IndexedRoster;
-use home_types::{DeviceNo, DeviceSet, Item, NoMemory, RunNo};
+use home_types::{DeviceNo, Item, NoMemory, RunNo};
 use lineage_table::{Access, Status, Table, knot_from};
 use lock_leasing::Standing;
 use std::alloc::Global;
@@ -96,49 +97,92 @@ impl Slots {
         }
     }
 
-    /// This item stands before the run `r`. These devices are followed, all where none are named.
-    pub(crate) fn pass(&mut self, s: &Standing, r: RunNo, followed: Option<&DeviceSet>, item: Item)
+    /// The runs that are counted stand before the run `r`: each device of `r` is free at the latest
+    /// planned end there, of those of them that are not done with it.
+    pub(crate) fn pass(&mut self, s: &Standing, r: RunNo, counted: &[bool])
+        requires size { length self.old ≡ length s.now.table }
+        requires run { IsTrue (is_run s.now.runs r.0) }
+        requires homed { RunsAreHomed (length s.now.table) s.now.runs }
+        ensures { self.new
+            ≡ changed (slot_behind s.now.table (λ x. slice_index_or counted.now x false))
+            (devices_among s.now.runs r.0 (length self.old)) self.old }
+    {
+        s.roster.kept_invariant();
+        let footprint = s.roster.devices(r);
+        let mut from = DeviceNo(0);
+        'devices: while let Some(d) = footprint.next(from) {
+            let slot = self.slots[d.0 as usize];
+            let free = latest_end(s.table.chain(d), counted);
+            self.slots[d.0 as usize] = Slot { free, ..slot };
+            from = DeviceNo(d.0 + 1);
+        }
+    }
+
+    /// The items with a flag stand before the run `r`, which waits for those of them that write a
+    /// device on which it begins with a read.
+    pub(crate) fn wait_for_writers(&mut self, s: &Standing, r: RunNo, before: &[bool])
+        requires size { length self.old ≡ length s.now.table }
+        requires flags { length before.now ≡ length s.now.line }
+        requires run { IsTrue (is_run s.now.runs r.0) }
+        requires known { ItemsAreKnown s.now.runs (items_of s.now.line) }
+        requires homed { RunsAreHomed (length s.now.table) s.now.runs }
+        ensures { self.new ≡ fold (λ ss i. waited_item s.now.table s.now.runs r.0 i ss) self.old
+            (chosen before.now (items_of s.now.line)) }
+    {
+        'items: for at in 0..s.line.len() {
+            if !before[at as usize] {
+                continue;
+            }
+            let item = s.line.get(at).unwrap();
+            self.wait_for(s, r, item);
+        }
+    }
+
+    /// This item stands before the run `r`: where it is a run that writes a device on which `r`
+    /// begins with a read, the device is free at the planned end of that whole run.
+    fn wait_for(&mut self, s: &Standing, r: RunNo, item: Item)
         requires size { length self.old ≡ length s.now.table }
         requires run { IsTrue (is_run s.now.runs r.0) }
         requires known { IsKnown s.now.runs item }
         requires homed { RunsAreHomed (length s.now.table) s.now.runs }
-        requires followed { AreFollowed s.now.runs r.0 (option_map (λ b. b.now) followed) }
-        ensures { self.new ≡ passed_item s.now.table s.now.history s.now.runs r.0 item self.old }
+        ensures { self.new ≡ waited_item s.now.table s.now.runs r.0 item self.old }
     {
-        let Item::Ran(x) = item else {
-            return;
-        };
-        let whole = self.pass_accesses(s, r, followed, x);
-        if whole > 0 {
-            self.wait_for_writer(s.roster, r, x, whole);
+        match item {
+            Item::Ran(x) => self.wait_for_run(s, r, x),
+            Item::Failed(..) | Item::Back(..) => {}
         }
     }
 
-    /// The accesses of the run `x` to the devices that are followed are passed: each device is free
-    /// at the planned end there, unless the run is done with it, or is doomed. Answers the planned
-    /// end of the run on these devices.
-    fn pass_accesses(
-        &mut self,
-        s: &Standing,
-        r: RunNo,
-        followed: Option<&DeviceSet>,
-        x: RunNo,
-    ) -> u64
+    /// Where the run `r` begins with a read on a device that the run `x` writes, the device is free
+    /// at the planned end of the whole run `x`.
+    fn wait_for_run(&mut self, s: &Standing, r: RunNo, x: RunNo)
         requires size { length self.old ≡ length s.now.table }
-        requires followed { AreFollowed s.now.runs r.0 (option_map (λ b. b.now) followed) }
-        ensures slots { self.new
-            ≡ changed (slot_passed s.now.table (is_some (doom_of s.now.history x.0)) x.0)
-            (devices_passed s.now.table s.now.runs r.0 x.0) self.old }
-        ensures whole { result ≡ whole_passed s.now.table s.now.runs r.0 x.0 }
+        requires run { IsTrue (is_run s.now.runs r.0) }
+        requires other { IsTrue (is_run s.now.runs x.0) }
+        requires homed { RunsAreHomed (length s.now.table) s.now.runs }
+        ensures { self.new ≡ waited_run s.now.table s.now.runs r.0 x.0 self.old }
     {
-        s.table.kept_invariant();
-        let doomed = s.book.is_doomed(x);
-        let devices = devices_to_pass(s.table, x, followed);
+        let waiting = s.roster.first_reads_of(r, x);
+        match waiting.next(DeviceNo(0)) {
+            Some(_) => {
+                let whole = self.whole_end(s.table, x);
+                self.wait_for_writer(s.roster, r, x, whole);
+            }
+            None => {}
+        }
+    }
+
+    /// The planned end of the whole run `x`, by its accesses.
+    fn whole_end(&mut self, table: &Table, x: RunNo) -> u64
+        requires size { length self.old ≡ length table.now }
+        ensures slots { self.new ≡ self.old }
+        ensures whole { result ≡ whole_passed table.now x.0 }
+    {
+        table.kept_invariant();
         let mut whole = 0;
         let mut from = DeviceNo(0);
-        'devices: while let Some(d) = next_device(s.table, x, &devices, from) {
-            let access = find(s.table, d, x, &mut self.nears[d.0 as usize]);
-            self.slots[d.0 as usize].pass(access, doomed);
+        'devices: while let Some(d) = table.next_device(x, from) {
+            let access = find(table, d, x, &mut self.nears[d.0 as usize]);
             whole = whole.max(access.to);
             from = DeviceNo(d.0 + 1);
         }
@@ -223,16 +267,6 @@ impl Slots {
 }
 
 impl Slot {
-    /// This access is passed: the device is free at its planned end, unless its run is done with
-    /// it, or is doomed.
-    fn pass(&mut self, access: Access, doomed: bool)
-        ensures { self.new ≡ slot_behind doomed (Some access) self.old }
-    {
-        if !doomed && access.status != Status::Released {
-            self.free = self.free.max(access.to);
-        }
-    }
-
     /// The slot behind a run that writes the device, whose whole plan ends at this moment: the
     /// device is free then.
     fn behind_writer(self, whole: u64) -> Slot
@@ -270,36 +304,67 @@ fn find(table: &Table, d: DeviceNo, x: RunNo, near: &mut Option<Knot>) -> Access
     *accesses.get(k)
 }
 
-/// The devices among these to which the run has an access. `None`, for all, where none are named.
-fn devices_to_pass(table: &Table, x: RunNo, among: Option<&DeviceSet>) -> Option<DeviceSet>
-    ensures devices { (d : ℕ) → is_with_access table.now x.0 result d ≡ (has_access x.0
-        (accesses_at table.now d) && is_device_followed (option_map (λ b. b.now) among.entry) d) }
-    ensures homed { IfSome result (λ found. (d : ℕ) → set.contains found d ≡ true
-        → (d < length table.now) × (d < most_devices)) }
+/// For each number of a run whether it is one of the items with a flag, and not doomed.
+pub(crate) fn counted_runs(s: &Standing, before: &[bool]) -> [bool; PLACES]
+    requires flags { length before.now ≡ length s.now.line }
+    requires known { ItemsAreKnown s.now.runs (items_of s.now.line) }
+    ensures { (x : ℕ) → slice_index_or result x false
+        ≡ is_counted s.now.history (chosen before.now (items_of s.now.line)) x }
 {
-    match among {
-        Some(devices) => Some(table.devices_among(x, devices)),
-        None => None,
+    let mut counted = [false; PLACES];
+    'items: for at in 0..s.line.len() {
+        if !before[at as usize] {
+            continue;
+        }
+        let item = s.line.get(at).unwrap();
+        let Some(x) = run_of(item) else {
+            continue;
+        };
+        counted[x.0 as usize] = !s.book.is_doomed(x);
+    }
+    counted
+}
+
+/// The run that the item is. `None` where it is an event.
+fn run_of(item: Item) -> Option<RunNo>
+    ensures some { IfSome result (λ x. item ≡ Ran x) }
+    ensures none { IfNone result ((x : ℕ) → is_ran x item ≡ false) }
+{
+    match item {
+        Item::Ran(x) => Some(x),
+        Item::Failed(..) | Item::Back(..) => None,
     }
 }
 
-/// The smallest of these devices from `from` on, of those to which the run has an access where none
-/// are named.
-fn next_device(
-    table: &Table,
-    x: RunNo,
-    devices: &Option<DeviceSet>,
-    from: DeviceNo,
-) -> Option<DeviceNo>
-    requires { IfSome devices.now (λ found. (d : ℕ) → set.contains found d ≡ true
-        → (d < length table.now) × (d < most_devices)) }
-    ensures next { IsFirstFrom (is_with_access table.now x.0 devices.now) from.0
-        (option_map (λ d. d.0) result) }
-    ensures homed { IfSome result (λ d. (d.0 < length table.now) × (d.0 < most_devices)) }
+/// The latest planned end of these accesses, of those of runs that are counted and are not done
+/// with the device.
+fn latest_end(accesses: &Chain<Access>, counted: &[bool]) -> u64
+    ensures { result ≡ latest_end (λ x. slice_index_or counted.now x false)
+        (values_of accesses.now.pairs) }
 {
-    match devices {
-        Some(devices) => devices.next(from),
-        None => table.next_device(x, from),
+    accesses
+        .iter()
+        .fold(0, |end, (_, access)| later_end(end, *access, counted))
+}
+
+/// The latest planned end with this access, where it was this one without it.
+fn later_end(end: u64, access: Access, counted: &[bool]) -> u64
+    ensures { result ≡ later_end (λ x. slice_index_or counted.now x false) end access }
+{
+    if access.status != Status::Released && is_set(counted, access.run) {
+        end.max(access.to)
+    } else {
+        end
+    }
+}
+
+/// Whether the flag of the run is set.
+fn is_set(flags: &[bool], x: RunNo) -> bool
+    ensures { result ≡ slice_index_or flags.now x.0 false }
+{
+    match flags.get(x.0 as usize) {
+        Some(flag) => *flag,
+        None => false,
     }
 }
 
