@@ -80,13 +80,17 @@ fn holds(book: &Book, writer: Option<RunNo>, access: Access) -> bool
 }
 
 /// The effective writer of the command's device before `r`, where the command would read its write.
+#[inline(always)]
 fn find_dirty_writer(s: &Standing, command: Command, r: RunNo) -> Option<RunNo>
     requires { command.device.0 < length s.now.table }
     ensures { result ≡ dirty_writer command r.0 (accesses_at s.now.table command.device.0) }
 {
+    if !reads(command.job) {
+        return None;
+    }
     let access = s.table.access(command.device, r)?;
     let sees_down = access.view == Some(View::Down);
-    if reads(command.job) && !sees_down && access.wrote.is_none() {
+    if !sees_down && access.wrote.is_none() {
         find_writer(s, command.device, r)
     } else {
         None
