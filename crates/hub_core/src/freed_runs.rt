@@ -65,7 +65,8 @@ pub(crate) fn free_going<D: Device>(blocked: &mut BlockedRuns, window: &OpenWind
 }
 
 /// The device has come home, with these entries. A run that has been answered there and has a
-/// command left there holds it still, and who is blocked there stays so.
+/// command left there holds it still, and who is blocked there stays so. An answer alone frees
+/// nobody elsewhere.
 #[inline(always)]
 pub(crate) fn free_back<D: Device>(
     blocked: &mut BlockedRuns,
@@ -77,11 +78,17 @@ pub(crate) fn free_back<D: Device>(
         (λ e. IsAnsweredStill (configuration_of window.now) d.0 made.now
         ⊎ ((e ≢ d.0) × (list_all (is_quiet window.now.setting e) made.now ≡ true))) }
 {
-    if window.is_answered_still(d, made) {
-        return;
+    match window.answer_alone(d, made) {
+        Some((r, k)) => {
+            if !window.holds_still(r, k, d) {
+                blocked.unmark_at(d);
+            }
+        }
+        None => {
+            blocked.unmark_at(d);
+            free_each(blocked, &window.history, made);
+        }
     }
-    blocked.unmark_at(d);
-    free_each(blocked, &window.history, made);
 }
 
 /// A run's step has made these entries. Where the run was placed at the end of the line, nobody is

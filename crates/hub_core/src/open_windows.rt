@@ -1,9 +1,10 @@
 //! An open window: its parts, and what is asked of them.
-ghost use Rattle.std.specs.Prelude.{IsTrue, None, false, length, option_map, ℕ, ◌-◌, ◌<◌, ◌↔◌, ◌≡◌};
+ghost use Rattle.std.specs.Prelude.{IfSome, IsTrue, None, false, length, option_map, ℕ, ◌-◌, ◌<◌, ◌↔◌, ◌≡◌};
+ghost use Rattle.command_rules.specs.Rosters.{command_at, commands_of, is_run};
 ghost use Rattle.history_book.specs.Settings.{is_weak};
 ghost use Rattle.hub_core.specs.BlockedRuns.{IsPlacedLast, next_device};
 ghost use Rattle.hub_core.specs.HubsKept.{HubIsKept};
-ghost use Rattle.hub_core.specs.MarkedRuns.{IsAnsweredStill, is_out_for_command};
+ghost use Rattle.hub_core.specs.MarkedRuns.{HoldsStill, IsAnswerAlone, is_out_for_command};
 ghost use Rattle.hub_core.specs.OpenHubs.{configuration_of};
 ghost use Rattle.window_devices.specs.KnownDevices.{progress_at};
 ghost use Rattle.lock_leasing.specs.Configurations.{read_of};
@@ -146,12 +147,12 @@ impl<D: Device> OpenWindow<D> {
         }
     }
 
-    /// Whether a step has answered a command on the device, and made no other entry, and its run
-    /// holds the device still: it is not doomed and has a later command there.
+    /// The run and the command that a step has answered on the device, where it made no other
+    /// entry.
     #[inline(always)]
-    pub(crate) fn is_answered_still(&self, d: DeviceNo, made: &Made) -> bool
-        ensures { IsTrue result
-            → IsAnsweredStill (configuration_of self.now) d.0 made.now }
+    pub(crate) fn answer_alone(&self, d: DeviceNo, made: &Made) -> Option<(RunNo, u32)>
+        ensures { IfSome result
+            (λ told. IsAnswerAlone self.now.setting told.0 told.1 d.0 made.now) }
     {
         let Made {
             a: Some(Entry::Did(r, k, _)),
@@ -159,13 +160,22 @@ impl<D: Device> OpenWindow<D> {
             c: None,
         } = *made
         else {
-            return false;
+            return None;
         };
-        let Some(device) = self.history.device_of(r, k) else {
-            return false;
-        };
-        device == d
-            && self.history.is_going(r)
+        let device = self.history.device_of(r, k)?;
+        if device == d { Some((r, k)) } else { None }
+    }
+
+    /// Whether the run, which was answered last on the device, at its command with the number `k`,
+    /// holds it still: it is not doomed and has a later command there.
+    #[inline(always)]
+    pub(crate) fn holds_still(&self, r: RunNo, k: u32, d: DeviceNo) -> bool
+        requires run { IsTrue (is_run self.now.setting.runs r.0) }
+        requires there { k < length (commands_of self.now.setting.runs r.0) }
+        requires device { (command_at self.now.setting.runs r.0 k).device.0 ≡ d.0 }
+        ensures { IsTrue result → HoldsStill (configuration_of self.now) r.0 k d.0 }
+    {
+        self.history.is_going(r)
             && self.history.progress(r).answered == k as u64 + 1
             && !self.history.is_done(r, k, d)
     }
