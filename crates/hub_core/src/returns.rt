@@ -17,6 +17,9 @@ use lock_leasing::Purpose;
 
 impl<D: Device> OpenWindow<D> {
     /// The device of a run's grip comes home.
+    ///
+    /// Most were called for a command, and the call worked: that is looked at before the other
+    /// cases.
     #[inline(always)]
     pub(crate) fn come_home(&mut self, grip: Grip<D, Done>, moment: u64) -> Made
         requires kept { IsKept self.old.places grip.slip grip.task }
@@ -25,22 +28,31 @@ impl<D: Device> OpenWindow<D> {
         ensures window { SameWindow self.old self.new }
     {
         let died = grip.told().died();
-        // But for a command's answer the entries are taken apart, so that those of a call that
-        // worked need no place in memory.
         match self.checkouts.known(grip.slip().device).purpose {
-            Purpose::Commands(k) if died => {
-                let Made { a, b, c } = self.answer_died(grip, moment, k);
+            Purpose::Commands(k) if !died => self.answer_lived(grip, moment, k),
+            // The entries are taken apart, so that those of a call that worked need no place in
+            // memory.
+            _ => {
+                let Made { a, b, c } = self.come_home_by_case(grip, moment);
                 Made { a, b, c }
             }
+        }
+    }
+
+    /// The device of a run's grip comes home, by the cases of what it was for and what it told.
+    #[inline(never)]
+    fn come_home_by_case(&mut self, grip: Grip<D, Done>, moment: u64) -> Made
+        requires kept { IsKept self.old.places grip.slip grip.task }
+        requires maker { 0 < grip.slip.maker }
+        ensures given { IsGiven self.old grip moment (Ok result) self.new }
+        ensures window { SameWindow self.old self.new }
+    {
+        let died = grip.told().died();
+        match self.checkouts.known(grip.slip().device).purpose {
+            Purpose::Commands(k) if died => self.answer_died(grip, moment, k),
             Purpose::Commands(k) => self.answer_lived(grip, moment, k),
-            Purpose::Undoes(_) if died => {
-                let Made { a, b, c } = self.undo_died(grip, moment);
-                Made { a, b, c }
-            }
-            Purpose::Undoes(_) => {
-                let Made { a, b, c } = self.undo_lived(grip, moment);
-                Made { a, b, c }
-            }
+            Purpose::Undoes(_) if died => self.undo_died(grip, moment),
+            Purpose::Undoes(_) => self.undo_lived(grip, moment),
             // The detector's grip is no run's.
             Purpose::Probes(_) => unreachable!(),
         }
