@@ -61,10 +61,30 @@ pub(crate) enum Chosen {
 
 impl<D: Device> OpenWindow<D> {
     /// What the step of the run `r` is to do at this moment, in ms, or at the last one where that
-    /// is later, by the cases of a step in order. Where that is to be placed by the timeline, the
-    /// scratch then holds the set and the planned times.
+    /// is later. Where that is to be placed by the timeline, the scratch then holds the set and the
+    /// planned times.
+    ///
+    /// Most steps are of a run at its next command: that is looked at before the other cases.
     #[inline(always)]
     pub(crate) fn decide(&self, r: RunNo, moment: u64, scratch: &mut Scratch) -> Chosen
+        requires scratch { IsForHome self.now.setting self.now.rounds scratch.old }
+        ensures choice { told_choice r.0 (max self.now.moment moment) result
+            ≡ choice_of (configuration_of self.now) r.0 moment }
+        ensures planned { HoldsChosen scratch.new (configuration_of self.now) r.0
+            (max self.now.moment moment) result }
+        ensures size { HasSameRoom scratch.old scratch.new }
+    {
+        match self.command_now(r) {
+            Some((k, command)) => self.decide_command(r, k, command, self.moment.max(moment)),
+            None => self.decide_by_case(r, moment, scratch),
+        }
+    }
+
+    /// What the step of the run `r` is to do at this moment, in ms, or at the last one where that
+    /// is later, by the cases of a step in order. Where that is to be placed by the timeline, the
+    /// scratch then holds the set and the planned times.
+    #[inline(never)]
+    fn decide_by_case(&self, r: RunNo, moment: u64, scratch: &mut Scratch) -> Chosen
         requires scratch { IsForHome self.now.setting self.now.rounds scratch.old }
         ensures choice { told_choice r.0 (max self.now.moment moment) result
             ≡ choice_of (configuration_of self.now) r.0 moment }

@@ -12,6 +12,7 @@ pub mod homes;
 pub mod hubs;
 mod join_calls;
 mod lenders;
+mod next_commands;
 mod open_calls;
 mod open_windows;
 mod placings;
