@@ -3,3 +3,5 @@
 
 -- A numbered list with one more element.
 pub use Rattle.day_report.proofs.Growing.{enumerate_from-append}
+-- How many runs of some windows committed and were aborted, window by window.
+pub use Rattle.day_report.proofs.Counts.{abort_count-take, commit_count-take, no_aborts, no_commits}

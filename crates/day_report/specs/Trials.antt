@@ -11,8 +11,12 @@ counts_words windows committed aborted =
     ++ codes " committed " ++ decimal committed ++ codes " aborted " ++ decimal aborted
 
 -- the trial's number, the counts of its day, and how many windows agree
+unfoldable pub trial_line : ℕ → ℕ → ℕ → ℕ → ℕ → List ℕ
+trial_line n windows committed aborted agree =
+    codes "trial " ++ decimal n ++ codes " " ++ counts_words windows committed aborted
+    ++ codes " agree " ++ decimal agree ++ codes "\n"
+
+-- .. of these windows
 unfoldable pub trial_text : ℕ → List WindowRecord → ℕ → List ℕ
 trial_text n windows agree =
-    codes "trial " ++ decimal n ++ codes " "
-    ++ counts_words (length windows) (commit_count windows) (abort_count windows)
-    ++ codes " agree " ++ decimal agree ++ codes "\n"
+    trial_line n (length windows) (commit_count windows) (abort_count windows) agree

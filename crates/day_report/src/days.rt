@@ -110,28 +110,28 @@ fn push_window(
 
 /// Writes the last line of a day: how many windows it has, and how many runs, committed and
 /// aborted.
+#[tactic(auto, unfolding(crate::specs::Days::total_text))]
 pub fn total_text(alloc: Global, windows: &List<WindowRecord>) -> Result<Bytes, NoMemory>
     ensures { IfOk result (λ b. b ≡ said.total_text windows.now.items) }
 {
+    counts_text(alloc, windows.len(), ends_of(windows.as_slice()))
+}
+
+/// Writes the last line of a day of so many windows, whose runs ended so.
+pub fn counts_text(alloc: Global, windows: u64, ends: Ends) -> Result<Bytes, NoMemory>
+    requires { ends.committed + ends.aborted < 2 ^ 128 }
+    ensures { IfOk result (λ b. b ≡ said.counts_line windows ends.committed ends.aborted) }
+{
     let mut text = String::new(alloc);
-    match push_total(&mut text, windows.as_slice()) {
+    match push_counts(&mut text, windows, ends.committed, ends.aborted) {
         Ok(()) => Ok(Bytes::from_text(text)),
         Err(_) => Err(NoMemory),
     }
 }
 
-#[tactic(auto, unfolding(crate::specs::Days::total_text))]
-fn push_total(text: &mut String, windows: &[WindowRecord]) -> Result<(), AllocError>
-    ensures { OnOk result
-        (string_bytes text.new ≡ string_bytes text.old ++ said.total_text windows.now) }
-{
-    let ends = ends_of(windows);
-    push_counts(text, windows.len(), ends.committed, ends.aborted)
-}
-
 fn push_counts(
     text: &mut String,
-    windows: usize,
+    windows: u64,
     committed: u128,
     aborted: u128,
 ) -> Result<(), AllocError>
@@ -172,13 +172,15 @@ pub fn ends_of(windows: &[WindowRecord]) -> Ends
     ends
 }
 
-fn commits_in(history: &[Kept]) -> usize
+/// How many runs committed, by this history.
+pub fn commits_in(history: &[Kept]) -> usize
     ensures { result ≡ count_by (λ kept. said.is_commit kept.entry) history.now }
 {
     history.iter().filter(|kept| is_commit(kept.entry)).count()
 }
 
-fn aborts_in(history: &[Kept]) -> usize
+/// How many runs were aborted, by this history.
+pub fn aborts_in(history: &[Kept]) -> usize
     ensures { result ≡ count_by (λ kept. said.is_abort kept.entry) history.now }
 {
     history.iter().filter(|kept| is_abort(kept.entry)).count()

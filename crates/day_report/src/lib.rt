@@ -10,6 +10,9 @@ mod run_entries;
 mod trials;
 mod words;
 
-pub use days::{Ends, ends_of, head_text, kept_head_text, total_text, window_text};
+pub use days::{
+    Ends, aborts_in, commits_in, counts_text, ends_of, head_text, kept_head_text, total_text,
+    window_text,
+};
 pub use entries::entry_text;
 pub use trials::trial_text;

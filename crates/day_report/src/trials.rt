@@ -2,9 +2,8 @@
 ghost use Rattle.std.specs.Prelude.{◌≡◌, ◌<◌, ◌+◌, ◌^◌, ◌++◌, IfOk, OnOk, string_bytes};
 ghost use Rattle.day_report.specs.Trials as said;
 
-use crate::days::{Ends, ends_of};
-use history_book::WindowRecord;
-use home_types::{Bytes, List, NoMemory};
+use crate::days::Ends;
+use home_types::{Bytes, NoMemory};
 use std::alloc::{AllocError, Global};
 use std::fmt::Write;
 
@@ -13,35 +12,40 @@ use std::fmt::Write;
 pub fn trial_text(
     alloc: Global,
     number: u32,
-    windows: &List<WindowRecord>,
+    windows: u64,
+    ends: Ends,
     agree: u64,
 ) -> Result<Bytes, NoMemory>
-    ensures { IfOk result (λ b. b ≡ said.trial_text number windows.now.items agree) }
+    requires { ends.committed + ends.aborted < 2 ^ 128 }
+    ensures { IfOk result
+        (λ b. b ≡ said.trial_line number windows ends.committed ends.aborted agree) }
 {
     let mut text = String::new(alloc);
-    match push_trial(&mut text, number, windows.as_slice(), agree) {
+    match push_trial(&mut text, number, windows, ends, agree) {
         Ok(()) => Ok(Bytes::from_text(text)),
         Err(_) => Err(NoMemory),
     }
 }
 
-#[tactic(auto, unfolding(crate::specs::Trials::trial_text))]
+#[tactic(auto, unfolding(crate::specs::Trials::trial_line))]
 fn push_trial(
     text: &mut String,
     number: u32,
-    windows: &[WindowRecord],
+    windows: u64,
+    ends: Ends,
     agree: u64,
 ) -> Result<(), AllocError>
-    ensures { OnOk result (string_bytes text.new
-        ≡ string_bytes text.old ++ said.trial_text number windows.now agree) }
+    requires { ends.committed + ends.aborted < 2 ^ 128 }
+    ensures { OnOk result (string_bytes text.new ≡ string_bytes text.old
+        ++ said.trial_line number windows ends.committed ends.aborted agree) }
 {
     write!(text, "trial {number} ")?;
-    push_counts(text, windows.len(), ends_of(windows))?;
+    push_counts(text, windows, ends)?;
     writeln!(text, " agree {agree}")
 }
 
 #[tactic(auto, unfolding(crate::specs::Trials::counts_words))]
-fn push_counts(text: &mut String, windows: usize, ends: Ends) -> Result<(), AllocError>
+fn push_counts(text: &mut String, windows: u64, ends: Ends) -> Result<(), AllocError>
     requires { ends.committed + ends.aborted < 2 ^ 128 }
     ensures { OnOk result (string_bytes text.new
         ≡ string_bytes text.old ++ said.counts_words windows ends.committed ends.aborted) }

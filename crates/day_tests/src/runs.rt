@@ -4,11 +4,11 @@ ghost use Rattle.std.specs.Prelude.{◌≤◌};
 
 use day_clock::{BytesSink, BytesSource, Clock, SetClock, StdClock};
 use device_states::{Bench, Dead, Device, SimBench};
-use history_book::{Cause, End, Entry};
-use home_types::{Bytes, DeviceNo, List, NoMemory, RunNo, Value};
+use home_types::{Bytes, DeviceNo, List, NoMemory, Value};
 use hub_commands::{Finish, run_command};
 use std::alloc::Global;
 use std::hint;
+use std::str::from_utf8;
 use std::sync::Wait;
 use std::sync::atomic::{AtomicBool, Ordering};
 use std::thread::Threads;
@@ -98,10 +98,11 @@ fn two_meet(rt: HostRuntime) {
     let (finish, sink) = run(&rt, rt.alloc(), &["run"], MEETING, &mut bench, &scene.clock).expect(
         &rt, "memory",
     );
-    drop(sink);
     assert_eq!(rt; finish.status, 0);
-    assert!(rt; commits(&finish, RunNo(1)));
-    assert!(rt; commits(&finish, RunNo(2)));
+    drop(finish);
+    assert!(rt; has_line(sink.held(), b"run 1 a committed . ."));
+    assert!(rt; has_line(sink.held(), b"run 2 b committed . ."));
+    drop(sink);
 }
 
 #[test]
@@ -122,10 +123,11 @@ fn a_lease_is_revoked_while_nobody_else_steps(rt: HostRuntime) {
         let (finish, sink) = run(&rt, rt.alloc(), &words, LENDING, &mut bench, &scene.clock).expect(
             &rt, "memory",
         );
-        drop(sink);
         assert_eq!(rt; finish.status, 0);
-        assert!(rt; commits(&finish, RunNo(3)));
-        least = least.min(delay(&finish).unwrap_or(u64::MAX));
+        drop(finish);
+        assert!(rt; has_line(sink.held(), b"run 3 bake committed . ."));
+        least = least.min(delay(sink.held()).unwrap_or(u64::MAX));
+        drop(sink);
     }
     assert!(rt; least <= MOST_DELAY);
 }
@@ -216,44 +218,21 @@ fn owned(alloc: Global, words: &[&str]) -> Result<Vec<String>, NoMemory> {
     Ok(all)
 }
 
-/// Whether the run committed in the day's first window.
-fn commits<Dev: Device>(finish: &Finish<Dev>, r: RunNo) -> bool {
-    let Some(day) = &finish.day else {
-        return false;
-    };
-    let Some(window) = day.windows.get(0) else {
-        return false;
-    };
-    window
-        .history
-        .as_slice()
-        .iter()
-        .any(|kept| kept.entry == Entry::Ended(r, End::Committed))
-}
-
 /// Whether one of the text's lines is this one.
 pub fn has_line(text: &[u8], line: &[u8]) -> bool {
     text.split(|byte| *byte == b'\n').any(|found| found == line)
 }
 
-/// How long after its deadline the first lease was revoked in the day's first window, in ms. None
-/// where none was.
-fn delay<Dev: Device>(finish: &Finish<Dev>) -> Option<u64> {
-    let window = finish.day.as_ref()?.windows.get(0)?;
-    for kept in window.history.as_slice() {
-        if let Entry::Doomed(
-            _,
-            Cause::Revoked {
-                deadline,
-                moment,
-                ..
-            },
-        ) = kept.entry
-        {
-            return moment.checked_sub(deadline);
-        }
-    }
-    None
+/// How long after its deadline the lease of the second run was revoked, in ms, as its line says.
+/// None where it was not.
+fn delay(text: &[u8]) -> Option<u64> {
+    let text = from_utf8(text).ok()?;
+    let line = text.lines().find(|line| line.starts_with("run 2 "))?;
+    let (_, times) = line.split_once(" deadline ")?;
+    let (deadline, moment) = times.split_once(" at ")?;
+    let deadline: u64 = deadline.parse().ok()?;
+    let moment: u64 = moment.parse().ok()?;
+    moment.checked_sub(deadline)
 }
 
 /// What the devices of a home share: two flags, and a clock.

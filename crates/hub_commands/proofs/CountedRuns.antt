@@ -5,7 +5,7 @@ use Rattle.history_book.specs.WellFormed.{IsWellFormed}
 use Rattle.home_types.specs.declared.modes.Scheduler.{Scheduler}
 use Rattle.home_types.specs.declared.modes.Visibility.TheVariants.{Eventual, Global, Partitioned, Weak}
 use Rattle.home_types.specs.declared.modes.Visibility.{Visibility}
-use Rattle.hub_commands.specs.declared.plays.DayUnderWay.{DayUnderWay}
+use Rattle.hub_commands.specs.declared.plays.UntoldDay.{UntoldDay}
 use Rattle.legal_days.specs.LegalWindows.{IsLegalWindow, all_ended, history_of}
 use Rattle.order_checker.proofs.Cited.{window_sound}
 use Rattle.printed_records.proofs.Cited.{all-ended}
@@ -61,7 +61,7 @@ runs_few works script mode records takes sound played =
     omega (arith, few, windows, all, count)
 
 -- the next window, where it was played, is one more than was told of
-pub next_to_tell : {D : Type 0} (works : WindowWay) (shows : D → Shown) (script : Script) (mode : Mode) (records : List WindowRecord) (told : Option (List Counts)) (next : Result (DayUnderWay D) (Listed WindowRecord))
+pub next_to_tell : {D : Type 0} (works : WindowWay) (shows : D → Shown) (script : Script) (mode : Mode) (records : List WindowRecord) (told : Option (List Counts)) (next : Result (UntoldDay D) (Listed WindowRecord))
     → IsSound (plain_script script) → IsToldOf told records → NextIs works shows (new_course script) mode records next → IsNextToTell told next
 next_to_tell works shows script mode records told (Ok day) sound is gone =
     (record { before = records; closed = gone.closed; more = gone.more; told_of = is }, runs_few works script mode day.windows.items gone.under_way.takes sound gone.under_way.played)

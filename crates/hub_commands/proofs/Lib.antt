@@ -35,3 +35,4 @@ mod AskedRooms
 mod NewRooms
 mod ToldLines
 mod GivenDays
+mod ToldWindows

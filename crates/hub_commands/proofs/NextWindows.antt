@@ -2,6 +2,7 @@
 use Rattle.hub_commands.proofs.Prelude.{DayCourse, Err, HasGoneOn, HomeIsKept, HomeState, IfErr, IfOk, IsUnderWayOn, IsWorkedAs, List, Listed, Mode, NextIs, NextIsOpened, Ok, PlaysOneMore, Result, Script, Shown, Some, WindowRecord, WindowText, WindowWay, [], ap, arith, course_behind, drop, length, map, option_map, refl, run_of_text, script_of, script_runs, setting_on, slice_get, subst, suc, sym, unwrap_or, windows_behind, zero, ℕ, ◌++◌, ◌+◌, ◌∙◌, ◌∷◌, ◌≡◌}
 use Rattle.hub_commands.proofs.DaysUnderWay.{gone_on}
 use Rattle.hub_commands.specs.declared.plays.DayUnderWay.{DayUnderWay}
+use Rattle.hub_commands.specs.declared.plays.UntoldDay.{UntoldDay}
 use Rattle.hub_core.specs.HubCalls.{IsOpened}
 use Rattle.hub_core.specs.OpenHubs.{OpenHub, configuration_of}
 use Rattle.hub_core.specs.Steps.{opened}
@@ -64,7 +65,7 @@ next_gone works shows course mode window before after hub records more closed da
     }) all
 
 -- what came of the next window behind so many of the script
-pub next_played : {D : Type 0} (works : WindowWay) (shows : D → Shown) (script : Script) (before : ℕ) (mode : Mode) (day : DayUnderWay D) (course : DayCourse) (next : Result (DayUnderWay D) (Listed WindowRecord))
+pub next_played : {D : Type 0} (works : WindowWay) (shows : D → Shown) (script : Script) (before : ℕ) (mode : Mode) (day : DayUnderWay D) (course : DayCourse) (next : Result (UntoldDay D) (Listed WindowRecord))
     → IsUnderWayOn works shows (course_behind script before course) mode day.home day.windows.items
     → IfOk next (λ played. PlaysOneMore works shows script before mode day played) → IfErr next (λ windows. windows.items ≡ day.windows.items)
     → NextIs works shows (course_behind script before course) mode day.windows.items next
@@ -72,7 +73,7 @@ next_played works shows script before mode day course (Ok next) under played sam
 next_played works shows script before mode day course (Err windows) under played same = same
 
 -- what came of it
-pub next_is : {D : Type 0} (works : WindowWay) (shows : D → Shown) (course : DayCourse) (mode : Mode) (records : List WindowRecord) (next : Result (DayUnderWay D) (Listed WindowRecord))
+pub next_is : {D : Type 0} (works : WindowWay) (shows : D → Shown) (course : DayCourse) (mode : Mode) (records : List WindowRecord) (next : Result (UntoldDay D) (Listed WindowRecord))
     → IfOk next (λ day. HasGoneOn works shows course mode records day.home day.windows.items) → IfErr next (λ windows. windows.items ≡ records)
     → NextIs works shows course mode records next
 next_is works shows course mode records (Ok day) gone same = gone

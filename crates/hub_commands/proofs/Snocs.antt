@@ -14,6 +14,17 @@ snoc_front (w ∷ xs) (z ∷ ys) x y same =
     let front = snoc_front xs ys x y rest in
     λ i. first i ∷ front i
 
+-- .. and that item is the same
+pub snoc_last : {X : Type 0} (xs ys : List X) (x y : X) → xs ++ x ∷ [] ≡ ys ++ y ∷ [] → x ≡ y
+snoc_last [] [] x y same = cc
+snoc_last [] (z ∷ []) x y same = absurd (cc)
+snoc_last [] (z ∷ w ∷ ys) x y same = absurd (cc)
+snoc_last (w ∷ []) [] x y same = absurd (cc)
+snoc_last (w ∷ v ∷ xs) [] x y same = absurd (cc)
+snoc_last (w ∷ xs) (z ∷ ys) x y same =
+    let rest : xs ++ x ∷ [] ≡ ys ++ y ∷ [] = cc in
+    snoc_last xs ys x y rest
+
 -- no list is empty with one item more
 pub no_snoc : {X : Type 0} (xs : List X) (x : X) → [] ≡ xs ++ x ∷ [] → ⊥
 no_snoc [] x none = cc

@@ -15,11 +15,12 @@ use Rattle.hub_commands.specs.declared.faults.Fault.{Fault}
 use Rattle.hub_commands.specs.declared.finishes.Day.{Day}
 use Rattle.hub_commands.specs.declared.finishes.Finish.{Finish}
 use Rattle.hub_commands.specs.declared.plays.DayUnderWay.{DayUnderWay}
+use Rattle.hub_commands.specs.declared.plays.UntoldDay.{UntoldDay}
 use Rattle.hub_core.specs.Homes.{HomeState}
 use Rattle.routine_reader.specs.declared.scripts.Script.{Script}
 use Rattle.status_board.specs.declared.day_counts.Counts.{Counts}
 use Rattle.std.specs.Io.KnownBytes.{Appends}
-use Rattle.std.specs.Prelude.{Err, IfOk, List, Ok, Option, Result, Some, [], length, suc, ℕ, ◌+◌, ◌++◌, ◌<◌, ◌^◌, ◌≡◌}
+use Rattle.std.specs.Prelude.{Err, IfOk, List, Ok, Option, Result, Some, [], length, suc, ℕ, ◌+◌, ◌++◌, ◌<◌, ◌^◌, ◌∷◌, ◌≡◌}
 
 -- the home is under way, and the sink got the texts so far
 pub record IsGoingOn {D : Type 0} (works : WindowWay) (shows : D → Shown) (course : DayCourse)
@@ -31,15 +32,19 @@ pub record IsGoingOn {D : Type 0} (works : WindowWay) (shows : D → Shown) (cou
 
 -- the next window behind so many of the script was played, on any course that has come there
 abbrev pub PlaysOneMore : {D : Type 0} → WindowWay → (D → Shown) → Script → ℕ → Mode → DayUnderWay D
-    → DayUnderWay D → Type 0
+    → UntoldDay D → Type 0
 PlaysOneMore works shows script before mode day next =
     (course : DayCourse) → IsUnderWayOn works shows
     (course_behind script before course) mode day.home day.windows.items → HasGoneOn works shows
     (course_behind script before course) mode day.windows.items next.home next.windows.items
 
+-- this record is the last of these
+abbrev pub IsLastOf : WindowRecord → List WindowRecord → Type 0
+IsLastOf closed records = (earlier : List WindowRecord) × (records ≡ earlier ++ closed ∷ [])
+
 -- what came of the next window: the day has gone on by it, or memory was wanted
 abbrev pub NextIs : {D : Type 0} → WindowWay → (D → Shown) → DayCourse → Mode → List WindowRecord
-    → Result (DayUnderWay D) (Listed WindowRecord) → Type 0
+    → Result (UntoldDay D) (Listed WindowRecord) → Type 0
 NextIs works shows course mode records (Ok day) =
     HasGoneOn works shows course mode records day.home day.windows.items
 NextIs works shows course mode records (Err windows) = windows.items ≡ records
@@ -67,7 +72,7 @@ DayHasBegun works shows options sink home head result =
 -- whatever the sink held as the day began: with the lines of the window the day goes on, or it has
 -- ended
 abbrev pub HasWritten : {D : Type 0} → WindowWay → (D → Shown) → Script → ℕ → Options → Writes
-    → Result (DayUnderWay D) (Listed WindowRecord) → Result (DayUnderWay D) (Finish D) → Type 0
+    → Result (UntoldDay D) (Listed WindowRecord) → Result (DayUnderWay D) (Finish D) → Type 0
 HasWritten {D} works shows script before options sink next result =
     (course : DayCourse) (held : Option (List ℕ)) (f : ℕ) (home : HomeState D)
     (records : List WindowRecord) → IsGoingOn works shows
@@ -88,7 +93,7 @@ HasEnded works shows options sink last day fault =
 -- Which windows are handed back, and who is told of them
 
 -- the windows that were closed so far
-abbrev pub windows_in : {D : Type 0} → Result (DayUnderWay D) (Listed WindowRecord)
+abbrev pub windows_in : {D : Type 0} → Result (UntoldDay D) (Listed WindowRecord)
     → List WindowRecord
 windows_in (Ok day) = day.windows.items
 windows_in (Err windows) = windows.items
@@ -106,7 +111,7 @@ KeepsWindows (Err finish) records = HandsBack finish.day records
 -- where the next window was played it is one more than who looks on was told of, and their runs can
 -- be counted; else the windows are those
 abbrev pub IsNextToTell : {D : Type 0} → Option (List Counts)
-    → Result (DayUnderWay D) (Listed WindowRecord) → Type 0
+    → Result (UntoldDay D) (Listed WindowRecord) → Type 0
 IsNextToTell told (Ok day) =
     HasOneMore told day.windows.items
     × (commit_count day.windows.items + abort_count day.windows.items < 2 ^ 64)

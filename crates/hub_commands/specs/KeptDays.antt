@@ -22,6 +22,7 @@ use Rattle.hub_commands.specs.declared.faults.Fault.{Fault}
 use Rattle.hub_commands.specs.declared.finishes.Day.{Day}
 use Rattle.hub_commands.specs.declared.finishes.Finish.{Finish}
 use Rattle.hub_commands.specs.declared.kept_days.KeptDay.{KeptDay}
+use Rattle.hub_commands.specs.declared.kept_days.UntoldKeptDay.{UntoldKeptDay}
 use Rattle.hub_commands.specs.declared.plays.DayUnderWay.{DayUnderWay}
 use Rattle.hub_core.specs.Homes.{HomeState}
 use Rattle.legal_days.specs.LegalDays.{AreLeftFrom, Beginning, IsLegalCutDayFrom}
@@ -221,7 +222,7 @@ KeepsOn works shows told seen images moment since failures script before course 
 -- began
 abbrev pub HasKept : {D Q : Type 0} → WindowWay → (D → Shown) → Bool → (Q → List ℕ)
     → (Q → List ℕ → Type 0) → (Q → ℕ) → (Q → ℕ → List ℕ → Type 0) → (Q → ℕ) → Script → ℕ → Options
-    → Writes → KeptDay D Q → Result (KeptDay D Q) (Finish D × Q) → Type 0
+    → Writes → UntoldKeptDay D Q → Result (KeptDay D Q) (Finish D × Q) → Type 0
 HasKept {D}
     {Q} works shows told seen images moment since failures script before options sink next result =
     (course : DayCourse) (held : Option (List ℕ)) (f : ℕ) (first : Q) (home : HomeState D)

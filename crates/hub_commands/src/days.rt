@@ -1,10 +1,10 @@
 //! A day, window after window: how it begins, goes on and ends, and what is written of it.
 ghost use Rattle.std.specs.Prelude.{◌≡◌, ◌+◌, ◌<◌, ◌≤◌, ◌++◌, ◌∷◌, [], IfOk, None, Some, length};
-ghost use Rattle.day_report.specs.Days.{head_text, window_text as window_lines_of};
+ghost use Rattle.day_report.specs.Days.{head_text, total_text, window_text as window_lines_of};
 ghost use Rattle.home_types.specs.Limits.{most_windows};
 ghost use Rattle.hub_commands.specs.Days.{new_course};
 ghost use Rattle.hub_commands.specs.Finishes.{written};
-ghost use Rattle.hub_commands.specs.Going.{DayHasBegun, GoesOnOrEnds, HandsBack, HasEnded, HasWritten, KeepsWindows, windows_in};
+ghost use Rattle.hub_commands.specs.Going.{DayHasBegun, GoesOnOrEnds, HandsBack, HasEnded, HasWritten, IsLastOf, KeepsWindows, windows_in};
 ghost use Rattle.hub_commands.specs.LastLines.{LineIsWritten};
 ghost use Rattle.hub_commands.specs.Chunks.{StopEnds};
 ghost use Rattle.hub_commands.specs.Statuses.{status_for_fault};
@@ -15,11 +15,12 @@ ghost use Rattle.routine_reader.specs.Sound.{IsSound};
 use crate::chunks::{ChunkFault, write_chunk};
 use crate::faults::Fault;
 use crate::finishes::{Day, Finish};
-use crate::plays::DayUnderWay;
+use crate::plays::{DayUnderWay, UntoldDay};
+use crate::told_windows::{ToldWindow, ends_told};
 use crate::ways::Way;
 use command_words::Options;
 use day_clock::Sink;
-use day_report::{head_text, total_text, window_text};
+use day_report::{counts_text, head_text, window_text};
 use device_states::{Bench, Device};
 use history_book::WindowRecord;
 use home_types::{Bytes, List, NoMemory};
@@ -41,7 +42,7 @@ pub fn refuse<Dev: Device>(fault: Fault) -> Finish<Dev>
 }
 
 /// Ends the call with the windows that were closed, and without devices.
-pub fn end_without_devices<Dev: Device>(windows: List<WindowRecord>, fault: Fault) -> Finish<Dev>
+pub fn end_without_devices<Dev: Device>(windows: List<ToldWindow>, fault: Fault) -> Finish<Dev>
     ensures fault { result.fault ≡ Some fault }
     ensures day { result.day ≡ Some (record { windows = windows; devices = None }) }
     ensures status { result.status ≡ status_for_fault result.fault }
@@ -93,18 +94,17 @@ fn last_lines(
     script: &Script,
     options: Options,
     before: u32,
-    windows: &List<WindowRecord>,
+    windows: &List<ToldWindow>,
+    closed: &WindowRecord,
 ) -> Result<Bytes, NoMemory>
     requires some { 0 < length windows.now.items }
     requires few { before + length windows.now.items ≤ most_windows }
-    ensures { (earlier : _) (closed : _) → windows.now.items ≡ earlier ++ closed ∷ []
+    requires last { IsLastOf closed.now windows.now.items }
+    ensures { (earlier : _) (last : _) → windows.now.items ≡ earlier ++ last ∷ []
         → IfOk result (λ lines. lines
-        ≡ window_lines_of script.now (before + length earlier) closed options.mode options.trace) }
+        ≡ window_lines_of script.now (before + length earlier) last options.mode options.trace) }
 {
     let number = windows.len() - 1;
-    let Some(closed) = windows.get(number) else {
-        return Err(NoMemory);
-    };
     window_text(
         alloc,
         script,
@@ -113,6 +113,13 @@ fn last_lines(
         options.mode,
         options.trace,
     )
+}
+
+/// The last line of the day.
+fn total_line(alloc: Global, windows: &List<ToldWindow>) -> Result<Bytes, NoMemory>
+    ensures { IfOk result (λ b. b ≡ total_text windows.now.items) }
+{
+    counts_text(alloc, windows.len(), ends_told(windows.as_slice()))
 }
 
 /// Begins a day on this home, on which no window was opened: writes the head of the record.
@@ -175,21 +182,29 @@ pub fn go_on<W: Way, D: Device, K: Sink>(
     script: &Script,
     options: Options,
     before: u32,
-    next: Result<DayUnderWay<D>, List<WindowRecord>>,
+    next: Result<UntoldDay<D>, List<ToldWindow>>,
     sink: &mut K,
 ) -> Result<DayUnderWay<D>, Finish<D>>
     requires some { IfOk next (λ day. 0 < length day.windows.items) }
+    requires last { IfOk next (λ day. IsLastOf day.closed day.windows.items) }
     requires few { IfOk next (λ day. before + length day.windows.items ≤ most_windows) }
     ensures written { HasWritten (W.works _way.now) D.shows script.now before options
         (written (K.holds sink.old) (K.holds sink.new) (K.faults sink.old) (K.faults sink.new)) next
         result }
     ensures kept { KeepsWindows result (windows_in next) }
 {
-    let day = match next {
-        Ok(day) => day,
+    let next = match next {
+        Ok(next) => next,
         Err(windows) => return Err(end_without_devices(windows, Fault::Memory)),
     };
-    let lines = last_lines(alloc, script, options, before, &day.windows);
+    let UntoldDay {
+        home,
+        windows,
+        closed,
+    } = next;
+    let lines = last_lines(alloc, script, options, before, &windows, &closed);
+    drop(closed);
+    let day = DayUnderWay { home, windows };
     match write_chunk(sink, lines) {
         Ok(()) => Ok(day),
         Err(fault) => Err(stop(day, fault)),
@@ -210,7 +225,7 @@ pub fn end<W: Way, D: Device, K: Sink>(
         result.day result.fault }
     ensures kept { HandsBack result.day day.windows.items }
 {
-    if let Err(fault) = write_chunk(sink, total_text(alloc, &day.windows)) {
+    if let Err(fault) = write_chunk(sink, total_line(alloc, &day.windows)) {
         return stop(day, fault);
     }
     let DayUnderWay { home, windows } = day;

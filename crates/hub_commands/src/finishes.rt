@@ -1,7 +1,7 @@
 //! What a call hands back: its source, its sink, the day, and the fault.
 use crate::faults::Fault;
+use crate::told_windows::ToldWindow;
 use device_states::Device;
-use history_book::WindowRecord;
 use home_types::List;
 
 /// How a top call ended.
@@ -18,8 +18,8 @@ pub struct Finish<Dev: Device> {
 /// What came of a day.
 #[derive(Drop)]
 pub struct Day<Dev: Device> {
-    /// The windows that were closed, in order.
-    pub windows: List<WindowRecord>,
+    /// The windows that were closed, in order: their counts, and in clauses their records.
+    pub windows: List<ToldWindow>,
     /// The devices of the home as they were left, by their numbers; there exactly at the statuses
     /// 0, 4 and 9.
     pub devices: Option<List<Dev>>,

@@ -3,7 +3,7 @@ ghost use Rattle.std.specs.Prelude.{◌≡◌, ◌+◌, ◌<◌, ◌≤◌, [], 
 ghost use Rattle.home_journal.specs.Disks.{LeavesThis};
 ghost use Rattle.home_types.specs.Limits.{most_windows};
 ghost use Rattle.hub_commands.specs.Finishes.{written};
-ghost use Rattle.hub_commands.specs.Going.{KeepsWindows};
+ghost use Rattle.hub_commands.specs.Going.{IsLastOf, KeepsWindows};
 ghost use Rattle.hub_commands.specs.KeptDays.{BeginsBehind, HandsAllBack, HasEndedBehind, HasKept, HasKeptNext, HomeGoesOn};
 ghost use Rattle.hub_commands.specs.Statuses.{status_for_fault};
 ghost use Rattle.hub_commands.specs.Ways.{IsReplayOf};
@@ -15,7 +15,7 @@ ghost use Rattle.routine_reader.specs.Sound.{IsSound};
 use crate::days::{begin_on, end, end_without_devices, go_on};
 use crate::faults::Fault;
 use crate::finishes::{Day, Finish};
-use crate::plays::DayUnderWay;
+use crate::plays::{DayUnderWay, UntoldDay};
 use crate::replays::replay_next;
 use crate::ways::StepByStep;
 use command_words::Options;
@@ -32,6 +32,12 @@ use std::alloc::Global;
 pub struct KeptDay<Dev: Device, Q: Disk> {
     pub day: DayUnderWay<Dev>,
     pub journal: Journal<Q>,
+}
+
+/// The same, and the record of the day's last window, whose lines are not written yet.
+struct UntoldKeptDay<Dev: Device, Q: Disk> {
+    day: UntoldDay<Dev>,
+    journal: Journal<Q>,
 }
 
 /// Gives the disk of the journal back.
@@ -90,12 +96,17 @@ fn begin_behind<K: Sink, B: Bench, Q: Disk>(
 }
 
 /// Ends a day whose last window may not be kept, since the disk failed: its text is not written.
-fn end_unkept<Dev: Device>(day: DayUnderWay<Dev>) -> Finish<Dev>
+fn end_unkept<Dev: Device>(day: UntoldDay<Dev>) -> Finish<Dev>
     ensures status { result.status ≡ status_for_fault result.fault }
     ensures fault { result.fault ≡ Some Fault.Disk }
     ensures ends { HandsAllBack day.home.devices day.windows result.day }
 {
-    let DayUnderWay { home, windows } = day;
+    let UntoldDay {
+        home,
+        windows,
+        closed,
+    } = day;
+    drop(closed);
     Finish {
         status: Fault::Disk.status(),
         day: Some(Day {
@@ -113,10 +124,11 @@ fn write_kept<D: Device, K: Sink, Q: Disk>(
     script: &Script,
     options: Options,
     before: u32,
-    next: KeptDay<D, Q>,
+    next: UntoldKeptDay<D, Q>,
     sink: &mut K,
 ) -> Result<KeptDay<D, Q>, (Finish<D>, Q)>
     requires some { 0 < length next.day.windows.items }
+    requires last { IsLastOf next.day.closed next.day.windows.items }
     requires few { before + length next.day.windows.items ≤ most_windows }
     requires room { next.journal.kept < next.journal.most }
     requires kinds { next.day.home.kinds ≡ next.journal.kinds }
@@ -125,7 +137,7 @@ fn write_kept<D: Device, K: Sink, Q: Disk>(
         (written (K.holds sink.old) (K.holds sink.new) (K.faults sink.old) (K.faults sink.new)) next
         result }
 {
-    let KeptDay { day, journal } = next;
+    let UntoldKeptDay { day, journal } = next;
     match journal.keep(day.home.world()) {
         Ok(journal) => {
             match go_on(&StepByStep, alloc, script, options, before, Ok(day), sink) {
@@ -162,7 +174,7 @@ fn keep_next<D: Device, K: Sink, Q: Disk>(
     let KeptDay { day, journal } = kept;
     match replay_next(alloc, script, options.mode, before, day) {
         Ok(day) => {
-            let next = KeptDay { day, journal };
+            let next = UntoldKeptDay { day, journal };
             write_kept(alloc, script, options, before, next, sink)
         }
         Err(windows) => {

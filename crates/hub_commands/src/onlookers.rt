@@ -7,10 +7,10 @@ ghost use Rattle.status_board.specs.Publishings.{last_of};
 ghost use Rattle.status_board.specs.declared.day_counts.Counts.{Counts};
 ghost use Rattle.std.specs.Prelude.{◌≡◌, ◌+◌, ◌++◌, ◌<◌, ◌^◌, ◌∷◌, [], List, None, Option, Some, ℕ};
 
-use crate::plays::DayUnderWay;
-use day_report::{Ends, ends_of};
+use crate::plays::UntoldDay;
+use crate::told_windows::{ToldWindow, ends_told};
+use day_report::Ends;
 use device_states::Device;
-use history_book::WindowRecord;
 use home_types::List;
 use status_board::{Board, Counts, Publisher};
 use std::sync::Wait;
@@ -27,7 +27,7 @@ pub trait Onlooker {
     ghost stands: { Self → Type 0 };
 
     /// One window more was closed: the last of these.
-    fn closed<R: Wait>(&mut self, rt: &R, windows: &List<WindowRecord>)
+    fn closed<R: Wait>(&mut self, rt: &R, windows: &List<ToldWindow>)
         requires stands { stands self.old }
         requires more { HasOneMore (told self.old) windows.now.items }
         requires few { commit_count windows.now.items + abort_count windows.now.items < 2 ^ 64 }
@@ -49,7 +49,7 @@ impl Onlooker for Nobody {
 
     ghost stands = { λ _. Unit {0} };
 
-    fn closed<R: Wait>(&mut self, _rt: &R, _windows: &List<WindowRecord>) {}
+    fn closed<R: Wait>(&mut self, _rt: &R, _windows: &List<ToldWindow>) {}
 }
 
 /// The counts of a day are posted on a board.
@@ -71,9 +71,9 @@ impl<'a> Onlooker for Posting<'a> {
 
     ghost stands = { λ posting. IsPosting posting.board.now posting.publisher posting.last };
 
-    fn closed<R: Wait>(&mut self, rt: &R, windows: &List<WindowRecord>) {
+    fn closed<R: Wait>(&mut self, rt: &R, windows: &List<ToldWindow>) {
         let closed = windows.len() as usize - 1;
-        let Ends { committed, aborted } = ends_of(&windows.as_slice()[closed..]);
+        let Ends { committed, aborted } = ends_told(&windows.as_slice()[closed..]);
         let committed = self.last.committed + committed as u64;
         let aborted = self.last.aborted + aborted as u64;
         let counts = Counts {
@@ -124,7 +124,7 @@ impl<'a> Posting<'a> {
 pub fn tell_of<R: Wait, O: Onlooker, D: Device>(
     rt: &R,
     onlooker: &mut O,
-    next: &Result<DayUnderWay<D>, List<WindowRecord>>,
+    next: &Result<UntoldDay<D>, List<ToldWindow>>,
 )
     requires stands { O.stands onlooker.old }
     requires next { IsNextToTell (O.told onlooker.old) next.now }

@@ -9,6 +9,7 @@ ghost use Rattle.routine_reader.specs.Rosters.{kinds_of};
 ghost use Rattle.routine_reader.specs.Scripts.{plain_script};
 ghost use Rattle.routine_reader.specs.Sound.{IsSound};
 
+use crate::told_windows::ToldWindow;
 use device_states::Device;
 use history_book::WindowRecord;
 use home_types::{List, Mode, NoMemory};
@@ -16,24 +17,32 @@ use hub_core::{Home, Hub};
 use routine_reader::{Script, roster};
 use std::alloc::Global;
 
-/// A day under way: the home after its last window, and the records of its windows.
+/// A day under way: the home after its last window, and its windows.
 #[derive(Drop)]
 pub struct DayUnderWay<Dev: Device> {
     pub home: Home<Dev>,
-    pub windows: List<WindowRecord>,
+    pub windows: List<ToldWindow>,
 }
 
-/// Opens the next window of the script on the home, and takes the memory for its record. So many
+/// A day under way, and the record of its last window, whose lines are not written yet.
+#[derive(Drop)]
+pub struct UntoldDay<Dev: Device> {
+    pub home: Home<Dev>,
+    pub windows: List<ToldWindow>,
+    pub closed: WindowRecord,
+}
+
+/// Opens the next window of the script on the home, and takes the memory for its counts. So many
 /// windows of the script went before the day.
 ///
-/// The records of the windows before come back; where memory is wanted the home is dropped.
+/// The windows before come back; where memory is wanted the home is dropped.
 pub fn open_next<Dev: Device>(
     alloc: Global,
     script: &Script,
     mode: Mode,
     before: u32,
     day: DayUnderWay<Dev>,
-) -> Result<(Hub<Dev>, List<WindowRecord>), List<WindowRecord>>
+) -> Result<(Hub<Dev>, List<ToldWindow>), List<ToldWindow>>
     requires sound { IsSound (plain_script script.now) }
     requires goes { IsTrue (is_mode mode) }
     requires next { before + length day.windows.items < length script.now.windows.items }
@@ -83,18 +92,23 @@ fn open_window<Dev: Device>(
 
 /// The day with one window more: the home that it left, and its record.
 pub fn close_next<Dev: Device>(
-    windows: List<WindowRecord>,
+    windows: List<ToldWindow>,
     home: Home<Dev>,
     closed: WindowRecord,
-) -> DayUnderWay<Dev>
+) -> UntoldDay<Dev>
     requires room { 0 < windows.spare }
     ensures home { result.home ≡ home }
     ensures kept { HomeIsKept Dev.shows home }
     ensures windows { result.windows.items ≡ windows.items ++ closed ∷ [] }
+    ensures closed { result.closed ≡ closed }
 {
     home.kept_invariant();
     let mut windows = windows;
-    let kept = windows.push(closed);
+    let kept = windows.push(ToldWindow::of(&closed));
     kept.unwrap();
-    DayUnderWay { home, windows }
+    UntoldDay {
+        home,
+        windows,
+        closed,
+    }
 }

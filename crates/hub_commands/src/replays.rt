@@ -3,7 +3,7 @@ ghost use Rattle.std.specs.Prelude.{◌≡◌, ◌+◌, ◌<◌, ◌≤◌, Err,
 ghost use Rattle.home_types.specs.Limits.{most_windows};
 ghost use Rattle.hub_commands.specs.Days.{plain};
 ghost use Rattle.hub_commands.specs.Finishes.{DayEnds, written};
-ghost use Rattle.hub_commands.specs.Going.{PlaysOneMore};
+ghost use Rattle.hub_commands.specs.Going.{IsLastOf, PlaysOneMore};
 ghost use Rattle.hub_commands.specs.Played.{IsWorkedAs};
 ghost use Rattle.hub_commands.specs.Statuses.{status_for_fault};
 ghost use Rattle.hub_commands.specs.Ways.{IsReplayOf};
@@ -16,7 +16,8 @@ ghost use Rattle.routine_reader.specs.Sound.{IsSound};
 
 use crate::days::{begin, end, go_on};
 use crate::finishes::Finish;
-use crate::plays::{DayUnderWay, close_next, open_next};
+use crate::plays::{DayUnderWay, UntoldDay, close_next, open_next};
+use crate::told_windows::ToldWindow;
 use crate::ways::StepByStep;
 use command_words::Options;
 use day_clock::Sink;
@@ -52,14 +53,14 @@ fn replay_opened<D: Device>(
 /// Replays the next window of the script, by its turns and its seed. So many windows of the script
 /// went before the day.
 ///
-/// Where memory is wanted the records of the windows before come back; the home is dropped.
+/// Where memory is wanted the windows before come back; the home is dropped.
 pub fn replay_next<D: Device>(
     alloc: Global,
     script: &Script,
     mode: Mode,
     before: u32,
     day: DayUnderWay<D>,
-) -> Result<DayUnderWay<D>, List<WindowRecord>>
+) -> Result<UntoldDay<D>, List<ToldWindow>>
     requires sound { IsSound (plain_script script.now) }
     requires goes { IsTrue (is_mode mode) }
     requires next { before + length day.windows.items < length script.now.windows.items }
@@ -68,6 +69,7 @@ pub fn replay_next<D: Device>(
     ensures played { IfOk result
         (λ next. PlaysOneMore IsReplayOf D.shows script.now before mode day next) }
     ensures more { IfOk result (λ next. length next.windows.items ≡ length day.windows.items + 1) }
+    ensures last { IfOk result (λ next. IsLastOf next.closed next.windows.items) }
     ensures kinds { IfOk result (λ next. next.home.kinds ≡ day.home.kinds) }
     ensures starved { IfErr result (λ windows. windows.items ≡ day.windows.items) }
 {

@@ -5,7 +5,7 @@ ghost use Rattle.hub_commands.specs.Boards.{IsToldOf};
 ghost use Rattle.hub_commands.specs.Days.{DayIsUnderWay, new_course, plain};
 ghost use Rattle.hub_commands.specs.Calls.{CallEnds, IsProbedInAll};
 ghost use Rattle.hub_commands.specs.Finishes.{DayEnds, read_off, written};
-ghost use Rattle.hub_commands.specs.Going.{IsToldOfDay};
+ghost use Rattle.hub_commands.specs.Going.{IsLastOf, IsToldOfDay};
 ghost use Rattle.hub_commands.specs.Played.{HasGoneOn, IsWorkedAs};
 ghost use Rattle.hub_commands.specs.Statuses.{status_for_fault};
 ghost use Rattle.hub_commands.specs.Ways.{IsRunWithin};
@@ -20,7 +20,8 @@ use crate::faults::Fault;
 use crate::finishes::Finish;
 use crate::inputs::read_input;
 use crate::onlookers::{Nobody, Onlooker, tell_of};
-use crate::plays::{DayUnderWay, close_next, open_next};
+use crate::plays::{DayUnderWay, UntoldDay, close_next, open_next};
+use crate::told_windows::ToldWindow;
 use crate::ways::InThreads;
 use command_words::{CommandLine, Options, WordFault, read_words};
 use day_clock::{Clock, Sink, Source};
@@ -60,7 +61,7 @@ fn run_opened<R: Threads + Wait + Sync, D: Device + Send, C: Clock + Sync>(
 
 /// Runs the next window of the script, with threads.
 ///
-/// Where memory is wanted the records of the windows before come back; the home is dropped.
+/// Where memory is wanted the windows before come back; the home is dropped.
 fn run_next<R: Threads + Wait + Sync, D: Device + Send, C: Clock + Sync>(
     rt: &R,
     alloc: Global,
@@ -68,7 +69,7 @@ fn run_next<R: Threads + Wait + Sync, D: Device + Send, C: Clock + Sync>(
     mode: Mode,
     day: DayUnderWay<D>,
     clock: &C,
-) -> Result<DayUnderWay<D>, List<WindowRecord>>
+) -> Result<UntoldDay<D>, List<ToldWindow>>
     requires sound { IsSound (plain_script script.now) }
     requires goes { IsTrue (is_mode mode) }
     requires next { length day.windows.items < length script.now.windows.items }
@@ -77,6 +78,7 @@ fn run_next<R: Threads + Wait + Sync, D: Device + Send, C: Clock + Sync>(
     ensures played { IfOk result
         (λ next. HasGoneOn (IsRunWithin (C.earliest clock.now) (C.latest clock.now)) D.shows
         (new_course script.now) mode day.windows.items next.home next.windows.items) }
+    ensures last { IfOk result (λ next. IsLastOf next.closed next.windows.items) }
     ensures starved { IfErr result (λ windows. windows.items ≡ day.windows.items) }
 {
     let (hub, windows) = match open_next(alloc, script, mode, 0, day) {

@@ -15,13 +15,13 @@ use crate::days::{end_with_line, refuse, starve};
 use crate::faults::Fault;
 use crate::finishes::{Day, Finish};
 use crate::replays::replay_day;
+use crate::told_windows::{ends_told, small_times};
 use command_words::Options;
 use day_clock::{BytesSink, Sink};
 use day_report::trial_text;
 use device_states::{Bench, Device};
 use home_types::{List, Mode, Scheduler, Visibility};
 use order_checker::{Verdict, check_record};
-use printed_records::held_days::held_day_agrees;
 use routine_reader::Script;
 use std::alloc::Global;
 use trial_scripts::trial_script;
@@ -69,12 +69,13 @@ fn judge_day<K: Sink, Dev: Device>(
         day result.day result.fault }
     ensures given { result.day ≢ None }
 {
-    held_day_agrees(script, OPTIONS.mode, OPTIONS.trace, &day.windows);
+    small_times(day.windows.as_slice());
     let Ok(verdict) = check_record(alloc, script, text) else {
         return starve(Some(day));
     };
     let agree = agreeing(verdict, day.windows.len());
-    let line = trial_text(alloc, number, &day.windows, agree);
+    let ends = ends_told(day.windows.as_slice());
+    let line = trial_text(alloc, number, day.windows.len(), ends, agree);
     end_with_line(sink, line, Some(day))
 }
 

@@ -37,7 +37,7 @@ fn small_times(records: &[WindowRecord])
 }
 
 /// .. in a history.
-fn small_entries(history: &[Kept])
+pub fn small_entries(history: &[Kept])
     ensures { are_small history.now ≡ true }
 {
     'entries: for kept in history {

@@ -24,13 +24,13 @@ returns-in-Ok-write_chunk-clause-written g c course held f home records going ne
     let D = g.D.Device in
     let K = g.K.Sink in
     let gone : NextIs (g.W.Way.works c.args._way.now) D.shows
-    (course_behind c.args.script.now c.args.before course) c.args.options.mode records (Ok c.in-Ok.day) =
+    (course_behind c.args.script.now c.args.before course) c.args.options.mode records (Ok c.in-Ok.next) =
     subst (λ n. NextIs (g.W.Way.works c.args._way.now) D.shows
     (course_behind c.args.script.now c.args.before course) c.args.options.mode records n) c.in-Ok.is next in (
       ap (λ ws. length ws) gone.more ∙ length_more records gone.closed,
       goes_on (g.W.Way.works c.args._way.now) D.shows (course_behind c.args.script.now c.args.before course) c.args.options
           held (K.holds c.args.sink.now) (K.holds c.write_chunk.new.sink) f (K.faults c.args.sink.now) (K.faults c.write_chunk.new.sink)
-          home c.in-Ok.day.home records c.in-Ok.day.windows.items c.last_lines-lines.result
+          home c.in-Ok.next.home records c.in-Ok.next.windows.items c.last_lines-lines.result
           going gone c.last_lines-lines.ensures c.in-Ok-write_chunk.ensures,
     )
 
@@ -39,13 +39,13 @@ returns-in-Err-write_chunk-clause-written g c course held f home records going n
     let D = g.D.Device in
     let K = g.K.Sink in
     let gone : NextIs (g.W.Way.works c.args._way.now) D.shows
-    (course_behind c.args.script.now c.args.before course) c.args.options.mode records (Ok c.in-Ok.day) =
+    (course_behind c.args.script.now c.args.before course) c.args.options.mode records (Ok c.in-Ok.next) =
     subst (λ n. NextIs (g.W.Way.works c.args._way.now) D.shows
     (course_behind c.args.script.now c.args.before course) c.args.options.mode records n) c.in-Ok.is next in (
       c.stop.ensures.status,
       lines_stopped (g.W.Way.works c.args._way.now) D.shows (course_behind c.args.script.now c.args.before course) c.args.options
           held (K.holds c.args.sink.now) (K.holds c.write_chunk.new.sink) f (K.faults c.args.sink.now) (K.faults c.write_chunk.new.sink)
-          home c.in-Ok.day.home records c.in-Ok.day.windows c.last_lines-lines.result c.in-Err-write_chunk.fault c.stop.result.day c.stop.result.fault
+          home c.in-Ok.next.home records c.in-Ok.next.windows c.last_lines-lines.result c.in-Err-write_chunk.fault c.stop.result.day c.stop.result.fault
           going gone c.last_lines-lines.ensures c.in-Err-write_chunk.ensures c.stop.ensures.ends,
     )
 
@@ -57,4 +57,4 @@ returns-in-Ok-write_chunk-clause-kept g c = sym (ap windows_in c.in-Ok.is)
 
 pub returns-in-Err-write_chunk-clause-kept : goal.returns-in-Err-write_chunk-clause-kept
 returns-in-Err-write_chunk-clause-kept g c =
-    stop_back c.in-Ok.day.windows c.in-Ok.day.home.devices c.in-Err-write_chunk.fault c.stop.result.day c.stop.result.fault _ c.stop.ensures.ends (sym (ap windows_in c.in-Ok.is))
+    stop_back c.in-Ok.next.windows c.in-Ok.next.home.devices c.in-Err-write_chunk.fault c.stop.result.day c.stop.result.fault _ c.stop.ensures.ends (sym (ap windows_in c.in-Ok.is))

@@ -37,6 +37,9 @@ returns-in-Ok-replay_opened-clause-played g c course under =
     under c.in-Ok.ensures.opened at
     c.in-Ok-replay_opened.ensures c.close_next.ensures.kept (c.close_next.ensures.windows ∙ ap (λ ws. ws ++ done.1 ∷ []) c.in-Ok.ensures.records))
 
+pub returns-in-Ok-replay_opened-clause-last : goal.returns-in-Ok-replay_opened-clause-last
+returns-in-Ok-replay_opened-clause-last g c = (c.in-Ok.opened.1.items, c.close_next.ensures.windows ∙ ap (λ closed. c.in-Ok.opened.1.items ++ closed ∷ []) (sym c.close_next.ensures.closed))
+
 pub returns-in-Ok-replay_opened-clause-more : goal.returns-in-Ok-replay_opened-clause-more
 returns-in-Ok-replay_opened-clause-more g c =
     let all = ap (λ ws. length ws) c.close_next.ensures.windows in

@@ -28,3 +28,6 @@ returns-in-Ok-run_opened-clause-played g c =
     c.args.day.home done.0 c.in-Ok.opened.0 c.args.day.windows.items c.close_next.result.windows.items done.1
     c.requires.under_way c.in-Ok.ensures.opened (ap (λ n. slice_get c.args.script.now.windows.items n) (sym number) ∙ at)
     c.in-Ok-run_opened.ensures c.close_next.ensures.kept (c.close_next.ensures.windows ∙ ap (λ ws. ws ++ done.1 ∷ []) c.in-Ok.ensures.records))
+
+pub returns-in-Ok-run_opened-clause-last : goal.returns-in-Ok-run_opened-clause-last
+returns-in-Ok-run_opened-clause-last g c = (c.in-Ok.opened.1.items, c.close_next.ensures.windows ∙ ap (λ closed. c.in-Ok.opened.1.items ++ closed ∷ []) (sym c.close_next.ensures.closed))

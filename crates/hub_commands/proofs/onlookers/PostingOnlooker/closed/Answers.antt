@@ -7,35 +7,35 @@ use Rattle.status_board.specs.declared.day_counts.Counts.{Counts}
 
 pub overflow_cast-committed : goal.overflow_cast-committed
 overflow_cast-committed g c =
-    let now = c.ends_of-committed.ensures in
+    let now = c.ends_told-committed.ensures in
     let sums = counts_added _ _ _ _ _ _ _ _ _ c.requires.stands.last_is c.requires.more.told_of c.requires.more.more c.as_slice.ensures c.len.ensures now.committed now.aborted in
     let few = c.requires.few in
     omega (arith, sums.0, sums.1, few)
 
 pub overflow_add-committed : goal.overflow_add-committed
 overflow_add-committed g c =
-    let now = c.ends_of-committed.ensures in
+    let now = c.ends_told-committed.ensures in
     let sums = counts_added _ _ _ _ _ _ _ _ _ c.requires.stands.last_is c.requires.more.told_of c.requires.more.more c.as_slice.ensures c.len.ensures now.committed now.aborted in
     let few = c.requires.few in
     omega (arith, sums.0, sums.1, few)
 
 pub overflow_cast-aborted : goal.overflow_cast-aborted
 overflow_cast-aborted g c =
-    let now = c.ends_of-committed.ensures in
+    let now = c.ends_told-committed.ensures in
     let sums = counts_added _ _ _ _ _ _ _ _ _ c.requires.stands.last_is c.requires.more.told_of c.requires.more.more c.as_slice.ensures c.len.ensures now.committed now.aborted in
     let few = c.requires.few in
     omega (arith, sums.0, sums.1, few)
 
 pub overflow_add-aborted : goal.overflow_add-aborted
 overflow_add-aborted g c =
-    let now = c.ends_of-committed.ensures in
+    let now = c.ends_told-committed.ensures in
     let sums = counts_added _ _ _ _ _ _ _ _ _ c.requires.stands.last_is c.requires.more.told_of c.requires.more.more c.as_slice.ensures c.len.ensures now.committed now.aborted in
     let few = c.requires.few in
     omega (arith, sums.0, sums.1, few)
 
 pub overflow_add-counts : goal.overflow_add-counts
 overflow_add-counts g c =
-    let now = c.ends_of-committed.ensures in
+    let now = c.ends_told-committed.ensures in
     let sums = counts_added _ _ _ _ _ _ _ _ _ c.requires.stands.last_is c.requires.more.told_of c.requires.more.more c.as_slice.ensures c.len.ensures now.committed now.aborted in
     let few = c.requires.few in
     omega (arith, sums.0, sums.1, few)
@@ -46,8 +46,8 @@ publish-requires-clause-rises g c =
     let sum = c.requires.stands.sum in
     let before : (last_of c.args.self.now.publisher.list).windows ≤ c.len-2.result = before_fewer _ _ _ _ _ c.requires.more.told_of c.requires.more.more c.len-2.ensures in
     subst
-    (λ (last : Counts). (last.windows ≤ c.len-2.result) × (last.runs ≤ c.args.self.now.last.committed + c.ends_of-committed.result.committed + (c.args.self.now.last.aborted + c.ends_of-committed.result.aborted))
-    × (last.committed ≤ c.args.self.now.last.committed + c.ends_of-committed.result.committed) × (last.aborted ≤ c.args.self.now.last.aborted + c.ends_of-committed.result.aborted))
+    (λ (last : Counts). (last.windows ≤ c.len-2.result) × (last.runs ≤ c.args.self.now.last.committed + c.ends_told-committed.result.committed + (c.args.self.now.last.aborted + c.ends_told-committed.result.aborted))
+    × (last.committed ≤ c.args.self.now.last.committed + c.ends_told-committed.result.committed) × (last.aborted ≤ c.args.self.now.last.aborted + c.ends_told-committed.result.aborted))
     last_is
     (subst (λ (x : Counts). x.windows ≤ c.len-2.result) (sym last_is) before, omega (arith, sum), omega arith, omega arith)
 
@@ -57,7 +57,7 @@ returns-clause-stands g c =
 
 pub returns-clause-told : goal.returns-clause-told
 returns-clause-told g c =
-    let now = c.ends_of-committed.ensures in
+    let now = c.ends_told-committed.ensures in
     let sums = counts_added _ _ _ _ _ _ _ _ _ c.requires.stands.last_is c.requires.more.told_of c.requires.more.more c.as_slice.ensures c.len.ensures now.committed now.aborted in
     let counts = counts_are c.args.windows.now.items _ _ _ c.len-2.ensures sums.0 sums.1 in
     c.publish.ensures.list
