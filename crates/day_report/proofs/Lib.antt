@@ -5,3 +5,4 @@ mod Prelude
 mod RunParts
 mod WorkedDays
 pub mod Cited
+mod Numbers

@@ -132,13 +132,15 @@ fn push_answer_of(
 {
     match entry {
         Entry::Did(asked, command, answer) if asked.0 as u64 == run => {
-            text.push_str(" ")?;
+            // the device's states are looked up for a value alone
             match answer {
-                // the device's states are looked up for a value alone
+                Answer::Fine => text.push_str(" ."),
                 Answer::Found(value) => {
+                    text.push_str(" ")?;
                     push_value(text, states_of(script, window, run, command), value)
                 }
-                _ => push_answer(text, &[], answer),
+                Answer::Down => text.push_str(" -"),
+                Answer::Skipped => text.push_str(" /"),
             }
         }
         _ => Ok(()),
@@ -295,7 +297,9 @@ fn push_stand(text: &mut String, device: &DeviceText, stand: Stand) -> Result<()
     ensures { OnOk result
         (string_bytes text.new ≡ string_bytes text.old ++ said.home_word device.now stand) }
 {
-    write!(text, " {}=", device.name.as_str())?;
+    text.push_str(" ")?;
+    text.push_str(device.name.as_str())?;
+    text.push_str("=")?;
     push_value(text, device.states.as_slice(), stand.value)?;
     if !stand.up {
         text.push_str("!")?;

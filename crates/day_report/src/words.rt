@@ -1,6 +1,7 @@
 //! What the lines of a window say of values, answers and causes.
-ghost use Rattle.std.specs.Prelude.{◌≡◌, ◌++◌, OnOk, string_bytes};
+ghost use Rattle.std.specs.Prelude.{◌≡◌, ◌+◌, ◌++◌, ◌<◌, ◌∷◌, [], OnOk, string_bytes};
 ghost use Rattle.day_report.specs.Words.{value_text, answer_text, cause_text};
+ghost use Rattle.std.specs.Fmt.{decimal};
 
 use crate::lookups::{device_name, states_of};
 use history_book::Cause;
@@ -17,8 +18,30 @@ pub fn push_value(text: &mut String, states: &[Text], value: Value) -> Result<()
 {
     match states.get(value as usize) {
         Some(name) => text.push_str(name.as_str()),
-        None => write!(text, "{value}"),
+        None => push_number(text, value),
     }
+}
+
+/// Appends a number in decimal.
+#[tactic(auto, using(crate::proofs::Numbers::one_digit, crate::proofs::Numbers::one_digit_more))]
+fn push_number(text: &mut String, number: u32) -> Result<(), AllocError>
+    ensures { OnOk result (string_bytes text.new ≡ string_bytes text.old ++ decimal number) }
+{
+    if number < 10 {
+        push_digit(text, number)?;
+        return Ok(());
+    }
+    push_number(text, number / 10)?;
+    push_digit(text, number % 10)?;
+    Ok(())
+}
+
+/// Appends a digit.
+fn push_digit(text: &mut String, digit: u32) -> Result<(), AllocError>
+    requires { digit < 10 }
+    ensures { OnOk result (string_bytes text.new ≡ string_bytes text.old ++ (48 + digit) ∷ []) }
+{
+    text.push((b'0' + digit as u8) as char)
 }
 
 /// Appends what a command was told, where its device has these states.
