@@ -54,10 +54,15 @@ class PlainDriver(MqttDriver):
         return {"value": number_of(word) if isinstance(self.kind, kinds.Steps) else word}
 
     def ask(self) -> None:
-        """It is not asked; one that is down is tried again, as if it had shown itself."""
-        if self.value is not None and not self.is_away:
-            for shown in self.on_shown:
-                shown()
+        """It is not asked: its last word counts, also for a command that changes nothing, after
+        which it may say nothing. One that is down is tried again, as if it had shown itself."""
+        if self.value is None or self.is_away:
+            return
+        for is_it, future in self.waiting:
+            if not self.is_old() and not future.done() and is_it(self.value):
+                future.set_result(True)
+        for shown in self.on_shown:
+            shown()
 
     def send(self, payload: Payload) -> None:
         if "value" in payload and not self.wire.is_json:
