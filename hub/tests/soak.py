@@ -187,9 +187,9 @@ class Soak:
     async def rest(self, web: aiohttp.ClientSession) -> None:
         """Waits until nothing runs, nothing waits and no device is down."""
         end = time.monotonic() + 60
-        calm = 0
+        calm, state = 0, None
         while calm < 5:
-            assert time.monotonic() < end, "it did not come to rest"
+            assert time.monotonic() < end, f"it did not come to rest: {state}"
             state = await self.state(web)
             is_calm = state and not state.get("opening") and not state["open"] \
                 and not state["queue"] and all(each["up"] for each in state["devices"])

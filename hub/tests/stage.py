@@ -94,6 +94,7 @@ class Stage:
         self.ends = Ends()
         self.killed: list[Ledger] = []
         self.draw = random.Random(1)
+        self.mark = self.last_mark = 0
 
     async def __aenter__(self) -> "Stage":
         self.mosquitto.start()
@@ -167,6 +168,19 @@ class Stage:
         await self.quiet()
         told = {each.trigger: each for each in self.ends.all}
         return [told[number] for number in numbers]
+
+    async def heard(self) -> None:
+        """Returns when the hub has heard all that the simulated devices have said so far."""
+        self.mark += 1
+        topic, wanted = "tests/mark", self.mark
+
+        def hear(topic: str, payload: bytes, is_retained: bool) -> None:
+            self.last_mark = int(payload)
+        if topic not in self.broker.heard:
+            self.broker.subscribe(topic, hear)
+        while self.last_mark < wanted:
+            self.sim.publish(topic, str(wanted))
+            await asyncio.sleep(0.01)
 
     async def quiet(self, seconds: float = 20) -> None:
         """Waits until nothing is open and nothing waits."""

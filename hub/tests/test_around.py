@@ -36,6 +36,8 @@ routines:
 
 class Triggered(unittest.IsolatedAsyncioTestCase):
     async def told(self, stage: Stage, least: int = 0) -> list[str]:
+        """The routines that have ended, when all that was said is heard, and nothing runs."""
+        await stage.heard()
         await until(lambda: len(stage.ends.all) >= least)
         await stage.quiet()
         names = [each.routine for each in stage.ends.all]
@@ -43,58 +45,58 @@ class Triggered(unittest.IsolatedAsyncioTestCase):
         return names
 
     async def test_off_after_is_cancelled_by_a_new_motion(self) -> None:
-        async with Stage(TRIGGERED) as stage:
-            hall = stage.devices["hall"]
-            hall.turn(1)
-            await asyncio.sleep(0.1)
+        async with Stage(TRIGGERED.replace("after: 0.4s", "after: 3s")) as stage:
+            hall, timers = stage.devices["hall"], stage.house.triggers.timers
+            for value, count in ((1, 0), (0, 1), (1, 0)):  # the last one before the 3 s are over
+                hall.turn(value)
+                await stage.heard()
+                self.assertEqual(len(timers), count)
+            self.assertEqual(await self.told(stage, 2), ["light", "light"])
             hall.turn(0)
-            await asyncio.sleep(0.25)
-            hall.turn(1)  # before the 0.4 s are over
-            await asyncio.sleep(0.3)
-            self.assertEqual(await self.told(stage), ["light", "light"])
-            hall.turn(0)
-            await asyncio.sleep(0.6)
-            self.assertEqual(await self.told(stage), ["dark"])
+            self.assertEqual(await self.told(stage, 1), ["dark"])
             self.assertEqual(stage.devices["lamp"].value, 0)
 
     async def test_off_after_is_kept_over_a_restart(self) -> None:
-        text = TRIGGERED.replace("after: 0.4s", "after: 2s")
+        text = TRIGGERED.replace("after: 0.4s", "after: 4s")
         for is_turned in (False, True):
             async with Stage(text) as stage:
                 hall = stage.devices["hall"]
                 hall.turn(1)
-                await asyncio.sleep(0.1)
+                self.assertEqual(await self.told(stage, 1), ["light"])
                 hall.turn(0)
-                await until(lambda: stage.house.triggers.timers)
-                self.assertEqual(await self.told(stage), ["light"])
+                self.assertEqual(await self.told(stage), [])
+                self.assertEqual(len(stage.house.triggers.timers), 1)
                 await stage.kill()
                 if is_turned:
                     hall.turn(1)  # while the hub is away
                 await stage.open()
                 self.assertEqual(len(stage.house.triggers.timers), 0 if is_turned else 1)
-                await asyncio.sleep(2.2)
-                self.assertEqual(await self.told(stage), [] if is_turned else ["dark"])
+                if is_turned:
+                    await asyncio.sleep(4.2)
+                self.assertEqual(await self.told(stage, 0 if is_turned else 1),
+                                 [] if is_turned else ["dark"])
 
     async def test_by_messages(self) -> None:
-        async with Stage(TRIGGERED) as stage:
+        async with Stage(TRIGGERED.replace("after: 0.4s", "after: 3s")) as stage:
             stage.sim.publish("z/button", '{"action": "double"}')
             stage.sim.publish("z/any", "x", True)
             stage.sim.publish("z/button", '{"action": "single"}')
             self.assertEqual(await self.told(stage, 2), ["button"] * 2)
+            timers = stage.house.triggers.timers
+            before = dict(timers)
+            self.assertEqual(len(before), 1)
             stage.begin("button")  # puts off what is to be done later
-            await asyncio.sleep(0.3)
-            self.assertEqual(await self.told(stage), ["button"])
-            await asyncio.sleep(0.4)
-            self.assertEqual(await self.told(stage), ["later"])
+            self.assertEqual(timers, {})
+            self.assertEqual(await self.told(stage, 1), ["button"])
+            self.assertEqual((len(timers), timers == before), (1, False))
+            self.assertEqual(await self.told(stage, 1), ["later"])
             stage.sim.publish("lazbendix/routine/light/run", "run")
             stage.sim.publish("lazbendix/routine/light/run", "walk")
-            await asyncio.sleep(0.2)
             self.assertEqual(await self.told(stage), ["light"])
 
     async def test_a_retained_command_begins_nothing(self) -> None:
         async with Stage(TRIGGERED) as stage:
             stage.sim.publish("lazbendix/routine/light/run", "run", True)
-            await asyncio.sleep(0.2)
             self.assertEqual(await self.told(stage), ["light"])
             await stage.close()
             await stage.open()
@@ -106,7 +108,6 @@ class Triggered(unittest.IsolatedAsyncioTestCase):
             inside = stage.devices["inside"]
             for degrees, names in ((20, []), (17.9, ["cold"]), (17, []), (19, []), (10, ["cold"])):
                 inside.turn(inside.kind.of_word(str(degrees)))
-                await asyncio.sleep(0.15)
                 self.assertEqual(await self.told(stage), names, degrees)
 
     def test_messages(self) -> None:
