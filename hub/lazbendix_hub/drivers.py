@@ -77,8 +77,14 @@ class DeviceDriver:
     # -- What it is asked
 
     def ask(self) -> None:
-        """Asks it to show itself. One that sleeps would not hear."""
+        """Asks it to show itself. One that sleeps would not hear: its last word counts."""
         raise NotImplementedError
+
+    def repeat(self) -> None:
+        """Counts its last word as said now, unless that is too old."""
+        if self.value is not None and not self.is_away and not self.is_old():
+            for shown in self.on_shown:
+                shown()
 
     def send(self, payload: Payload) -> None:
         """Sends a command."""
@@ -93,7 +99,7 @@ class DeviceDriver:
         return self.is_confirmed or self.device.is_sleepy
 
     def is_old(self) -> bool:
-        """Whether its last word is too long ago."""
+        """Whether its last word, where it sleeps, is too long ago."""
         return time.monotonic() - self.seen_at > self.device.age
 
     async def until(self, is_it: IsIt, begin: Callable[[], None]) -> bool:
@@ -182,7 +188,9 @@ class MqttDriver(DeviceDriver):
             self.told(told, is_retained)
 
     def ask(self) -> None:
-        if not self.device.is_sleepy:
+        if self.device.is_sleepy:
+            self.repeat()
+        else:
             self.broker.publish(self.get_topic, json.dumps(self.kind.asked()))
 
     def send(self, payload: Payload) -> None:
