@@ -8,6 +8,7 @@ import subprocess
 import sys
 import tempfile
 import time
+import unittest
 from typing import Any, Callable
 
 from lazbendix_hub.broker import Broker
@@ -15,7 +16,7 @@ from lazbendix_hub.home import Home
 from lazbendix_hub.house import House
 from lazbendix_hub.ledger import Ledger, Records
 from lazbendix_hub.live import Ended, Watcher
-from lazbendix_hub.mosquitto import Mosquitto
+from lazbendix_hub.mosquitto import Mosquitto, find_mosquitto
 from lazbendix_hub.reading import read_home
 from lazbendix_hub.simulated import Manner, Simulated, make_devices
 
@@ -52,6 +53,12 @@ class Ends(Watcher):
 
     def ended(self, ended: Ended) -> None:
         self.all.append(ended)
+
+
+def want_mosquitto() -> None:
+    """Where there is no mosquitto the test is passed over."""
+    if find_mosquitto() is None:
+        raise unittest.SkipTest("there is no mosquitto")
 
 
 def read(text: str) -> Home:
@@ -97,6 +104,7 @@ class Stage:
         self.mark = self.last_mark = 0
 
     async def __aenter__(self) -> "Stage":
+        want_mosquitto()
         self.mosquitto.start()
         self.sim = Broker("simulated", "")
         self.sim.connect("127.0.0.1", self.mosquitto.port)

@@ -9,7 +9,6 @@ import unittest
 
 from lazbendix_hub.broker import Broker
 from lazbendix_hub.home import CronTrigger, SunTrigger, TopicTrigger
-from lazbendix_hub.kinds import BadWord, Dimmer, Named, Palette, Steps
 from lazbendix_hub.live import LiveHub
 from lazbendix_hub.times import next_time, sun_time
 from lazbendix_hub.triggers import matches
@@ -165,46 +164,6 @@ class Times(unittest.TestCase):
         polar = next_time(SunTrigger(True, 0), after, (78, 15))
         assert polar is not None
         self.assertEqual(polar.month, 2)
-
-
-class Kinds(unittest.TestCase):
-    def test_each_value_is_found_again(self) -> None:
-        for device in read(HOME).devices:
-            kind = device.kind
-            for value in range(kind.low, min(kind.high, 400) + 1):
-                self.assertEqual(kind.value(kind.payload(value)), value)
-                self.assertEqual(kind.of_word(kind.word(value)), value, device.name)
-
-    def test_tolerance(self) -> None:
-        lamp, blinds, heat = Dimmer(1), Steps("position", 0, 100, 1, 2), Steps("t", 5, 30, 0.5)
-        self.assertTrue(lamp.is_near(119, 120))
-        self.assertFalse(lamp.is_near(0, 1))  # off is not nearly on
-        self.assertTrue(blinds.is_near(98, 100))
-        self.assertFalse(blinds.is_near(97, 100))
-        self.assertEqual((heat.of_word("21.5"), heat.word(33)), (33, "21.5"))
-        palette = Palette({"warm": (0.46, 0.41), "red": (0.68, 0.31)})
-        self.assertEqual(palette.value({"color": {"x": 0.463, "y": 0.406}}), 0)
-        self.assertIsNone(palette.value({"color": {"x": 0.3, "y": 0.3}}))
-
-    def test_words(self) -> None:
-        lamp = Dimmer()
-        for word, value in (("on", 254), ("off", 0), ("0%", 0), ("100%", 254), ("1%", 3), ("7", 7)):
-            self.assertEqual(lamp.of_word(word), value)
-        for word in ("255", "-1", "1.5", "101%", "nan", "%", "", "inf"):
-            self.assertRaises(BadWord, lamp.of_word, word)
-
-    def test_any_payload(self) -> None:
-        kinds = [device.kind for device in read(HOME).devices]
-        hostile: tuple[dict[str, object], ...] = (
-            {"state": []}, {"brightness": "7"}, {"brightness": 1e400}, {"position": None},
-            {"brightness": 10**400}, {"color": 3}, {"color": {"x": {}, "y": 1}}, {"contact": 1},
-            {"POWER": True}, {"state": {"state": 1}}, {"occupied_heating_setpoint": True},
-            {"brightness": float("nan")})
-        for told in hostile:
-            for kind in kinds:
-                self.assertIsNone(kind.value(told), told)
-        self.assertEqual(Steps("p", 0, 100).value({"p": -1e300}), 0)
-        self.assertIsNone(Named("s", {"a": [True], "b": ["x"]}).value({"s": 1}))
 
 
 class HomeAssistant(unittest.IsolatedAsyncioTestCase):

@@ -5,6 +5,7 @@ import sys
 import tempfile
 import unittest
 
+from lazbendix_hub.mosquitto import find_mosquitto
 from tests.soak import HOME, soak
 from tests.stage import TOP
 
@@ -62,6 +63,7 @@ class Command(unittest.TestCase):
         self.assertEqual(command("check", demo).returncode, 0)
         self.assertIn("min before sunset", command("routines", demo).stdout)
 
+    @unittest.skipUnless(find_mosquitto(), "there is no mosquitto")
     def test_demo(self) -> None:
         ran = command("demo", "--seconds", "10", "--port", "0", "--no-browser")
         self.assertEqual(ran.returncode, 0, ran.stderr)
