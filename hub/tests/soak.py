@@ -90,7 +90,7 @@ class Soak:
 
     async def up(self, web: aiohttp.ClientSession) -> None:
         """Waits for the hub."""
-        end = time.monotonic() + 30
+        end = time.monotonic() + 120
         while not await self.is_there(web):
             assert time.monotonic() < end, "the hub did not come up"
             await asyncio.sleep(0.02)

@@ -177,17 +177,18 @@ class Stage:
         told = {each.trigger: each for each in self.ends.all}
         return [told[number] for number in numbers]
 
-    async def heard(self) -> None:
-        """Returns when the hub has heard all that the simulated devices have said so far."""
+    async def heard(self, by: Broker | None = None) -> None:
+        """Returns when the hub, or whoever is named, has heard all that the simulated devices have
+        said so far."""
         self.mark += 1
-        topic, wanted = "tests/mark", self.mark
+        listener, wanted = by or self.broker, self.mark
 
         def hear(topic: str, payload: bytes, is_retained: bool) -> None:
-            self.last_mark = int(payload)
-        if topic not in self.broker.heard:
-            self.broker.subscribe(topic, hear)
+            self.last_mark = max(self.last_mark, int(payload))
+        if "tests/mark" not in listener.heard:
+            listener.subscribe("tests/mark", hear)
         while self.last_mark < wanted:
-            self.sim.publish(topic, str(wanted))
+            self.sim.publish("tests/mark", str(wanted))
             await asyncio.sleep(0.01)
 
     async def quiet(self, seconds: float = 20) -> None:

@@ -51,9 +51,11 @@ class Kills(unittest.IsolatedAsyncioTestCase):
             window = stage.devices["window"]
             window.leave()
             await until(lambda: stage.live.down)
+            await stage.run("evening")  # with it the log is on the disk
             await stage.kill()
             window.turn(1)
             window.come()  # it says so while no hub is there, and then nothing for a long time
+            await stage.heard(by=stage.sim)
             await stage.open()
             await until(lambda: not stage.live.down, 20)
             told, = await stage.run("leave")
