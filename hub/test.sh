@@ -1,9 +1,11 @@
 #!/bin/sh
-# Tests the hub: types, and all tests, over a real mosquitto and simulated devices; some six minutes. hub/setup.sh --tests
+# Tests the hub: types, and all tests, over a real mosquitto and simulated devices; some minutes. hub/setup.sh --tests
 # installs what it wants. What is not there is named, and the tests that want it are passed over: where no package is there,
 # some tests of parts are left. The library is that of library.sh.
 #
-#     sh hub/test.sh [-v] [TEST ..]
+#     sh hub/test.sh [-v] [-j N] [TEST ..]
+#
+# Three modules of tests run at the same time, or N.
 set -u
 here=$(cd "$(dirname "$0")" && pwd) || exit 1
 cd "$here" || exit 1
@@ -25,4 +27,4 @@ else
 fi
 long=$(awk 'length > 100 { print FILENAME ":" FNR }' lazbendix_hub/*.py tests/*.py)
 [ -z "$long" ] || { echo "over 100 columns: $long" >&2; exit 1; }
-exec "$PYTHON" -W ignore::ResourceWarning -m tests "$@"
+exec "$PYTHON" -W ignore::ResourceWarning -m tests -j 3 "$@"

@@ -18,7 +18,8 @@ def ended(trigger: int, routine: str, outcome: str, cause: str = "") -> Ended:
 
 class Triggers(unittest.TestCase):
     def setUp(self) -> None:
-        self.room = tempfile.TemporaryDirectory()
+        place = "/dev/shm" if os.path.isdir("/dev/shm") else None  # many syncs
+        self.room = tempfile.TemporaryDirectory(dir=place)
         self.path = os.path.join(self.room.name, "triggers.log")
 
     def tearDown(self) -> None:
