@@ -77,6 +77,7 @@ class Triggered(unittest.IsolatedAsyncioTestCase):
 
     async def test_by_messages(self) -> None:
         async with Stage(TRIGGERED.replace("after: 0.4s", "after: 3s")) as stage:
+            await stage.heard()  # so its subscriptions are there
             stage.sim.publish("z/button", '{"action": "double"}')
             stage.sim.publish("z/any", "x", True)
             stage.sim.publish("z/button", '{"action": "single"}')
@@ -95,6 +96,7 @@ class Triggered(unittest.IsolatedAsyncioTestCase):
 
     async def test_a_retained_command_begins_nothing(self) -> None:
         async with Stage(TRIGGERED) as stage:
+            await stage.heard()  # so its subscriptions are there
             stage.sim.publish("lazbendix/routine/light/run", "run", True)
             self.assertEqual(await self.told(stage), ["light"])
             await stage.close()
