@@ -1,5 +1,5 @@
 #!/bin/sh
-# Tests the hub: types, and all tests, over a real mosquitto and simulated devices; some minutes. hub/setup.sh --tests
+# Tests the hub: types, style, and all tests, over a real mosquitto and simulated devices; some minutes. hub/setup.sh --tests
 # installs what it wants. What is not there is named, and the tests that want it are passed over: where no package is there,
 # some tests of parts are left. The library is that of library.sh.
 #
@@ -27,4 +27,7 @@ else
 fi
 long=$(awk 'length > 100 { print FILENAME ":" FNR }' lazbendix_hub/*.py tests/*.py)
 [ -z "$long" ] || { echo "over 100 columns: $long" >&2; exit 1; }
+if command -v flake8 >/dev/null; then
+    flake8 --config ../setup.cfg lazbendix_hub tests || exit 1
+fi
 exec "$PYTHON" -W ignore::ResourceWarning -m tests -j 3 "$@"

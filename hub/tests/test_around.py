@@ -12,7 +12,7 @@ from lazbendix_hub.home import CronTrigger, SunTrigger, TopicTrigger
 from lazbendix_hub.live import LiveHub
 from lazbendix_hub.times import next_time, sun_time
 from lazbendix_hub.triggers import matches
-from tests.stage import HOME, Stage, read, until
+from tests.stage import HOME, Stage, until
 from tests.whole import Whole
 
 UTC = datetime.timezone.utc
