@@ -77,7 +77,8 @@ class DeviceDriver:
     # -- What it is asked
 
     def ask(self) -> None:
-        """Asks it to show itself. One that sleeps would not hear: its last word counts."""
+        """Asks it to show itself. One that sleeps would not hear: of a sensor its last word counts,
+        and of another one nothing does until it speaks."""
         raise NotImplementedError
 
     def repeat(self) -> None:
@@ -188,9 +189,9 @@ class MqttDriver(DeviceDriver):
             self.told(told, is_retained)
 
     def ask(self) -> None:
-        if self.device.is_sleepy:
+        if self.kind.is_sensor and self.device.is_sleepy:
             self.repeat()
-        else:
+        elif not self.device.is_sleepy:
             self.broker.publish(self.get_topic, json.dumps(self.kind.asked()))
 
     def send(self, payload: Payload) -> None:

@@ -240,9 +240,9 @@ class EntityDriver(DeviceDriver):
             self.told(told_of(self.domain, word, attributes), False)
 
     def ask(self) -> None:
-        if self.device.is_sleepy:
+        if self.kind.is_sensor and self.device.is_sleepy:
             self.repeat()
-        else:
+        elif not self.device.is_sleepy:
             self.there.call(("homeassistant", "update_entity"), self.device.topic, {}, self._looked)
 
     def send(self, payload: Payload) -> None:
