@@ -1,28 +1,38 @@
 #!/bin/sh
 # Installs what the hub needs from Debian or Ubuntu, and puts the command lazbendix-hub into /usr/local/bin. Run it as root.
-# Where no library is there, neither in library/out nor named by LAZBENDIX_LIBRARY, one is built unproved, which wants `rt`.
+# Where there is no library (library.sh says where it is looked for), one is built unproved, which wants `rt`, cc and ar.
 #
 #     sh hub/setup.sh [--tests]
 #
-# --tests installs what the types are checked with, too.
-set -e
+# --tests installs what tests want, too: mypy, and chromium for the page. It ends with 1 where something is missing in the end.
+set -eu
 here=$(cd "$(dirname "$0")" && pwd)
+say() { echo "setup: $*" >&2; }
+absent() { # the packages that are not installed
+    for each in "$@"; do
+        [ "$(dpkg-query -W -f='${db:Status-Status}' "$each" 2>/dev/null)" = installed ] || printf ' %s' "$each"
+    done
+}
+apt() { DEBIAN_FRONTEND=noninteractive apt-get -o Acquire::Retries=2 -o Acquire::http::Timeout=30 "$@"; }
+fetch() { # PACKAGE ..: installs them; where the lists are old or none, these are fetched first
+    # shellcheck disable=SC2046
+    [ -z "$(absent "$@")" ] || apt install -y --no-install-recommends $(absent "$@") >&2 ||
+        { apt update >&2 && apt install -y --no-install-recommends $(absent "$@") >&2; } || return 1
+}
 wanted="mosquitto python3 python3-paho-mqtt python3-aiohttp python3-croniter python3-yaml python3-prometheus-client"
 [ "${1:-}" != --tests ] || wanted="$wanted mypy"
-missing=
-for each in $wanted; do
-    [ "$(dpkg-query -W -f='${db:Status-Status}' "$each" 2>/dev/null)" = installed ] || missing="$missing $each"
-done
-if [ -n "$missing" ]; then
-    [ -n "$(ls /var/lib/apt/lists 2>/dev/null | grep -v -e lock -e partial -e auxfiles)" ] || apt-get update
-    # shellcheck disable=SC2086
-    DEBIAN_FRONTEND=noninteractive apt-get install -y --no-install-recommends $missing \
-        || { apt-get update && DEBIAN_FRONTEND=noninteractive apt-get install -y --no-install-recommends $missing; }
+# shellcheck disable=SC2086
+if ! fetch $wanted; then
+    say "not there, and not to be installed (is there a network, and is this root?):$(absent $wanted)"
+    exit 1
 fi
-if [ -z "${LAZBENDIX_LIBRARY:-}" ] && [ ! -e "$here/../library/out/liblazbendix.so" ] && [ ! -e "$here/out/liblazbendix.so" ]; then
-    command -v rt >/dev/null || { echo "setup: there is no library: build it by library/build.sh, or name one by LAZBENDIX_LIBRARY" >&2; exit 1; }
-    echo "setup: building the library, unproved: this takes some minutes" >&2
+[ "${1:-}" != --tests ] || command -v chromium >/dev/null || fetch chromium fonts-dejavu-core ||
+    say "chromium cannot be installed: the page is not tried"
+. "$here/library.sh"
+if [ -z "${LAZBENDIX_LIBRARY:-}" ]; then
+    command -v rt >/dev/null || { say "there is no library: install the package lazbendix, or build it by library/build.sh"; exit 1; }
+    say "building the library, unproved: this takes some minutes"
     (cd "$here/.." && python3 -m dev.unproved_build "$here/out" library)
 fi
 ln -sf "$here/lazbendix-hub" /usr/local/bin/lazbendix-hub
-echo "setup: lazbendix-hub is there; try: lazbendix-hub demo"
+say "lazbendix-hub is there; try: lazbendix-hub demo"

@@ -10,8 +10,8 @@ from typing import Sequence
 from lazbendix_hub import __version__
 from lazbendix_hub.daemon import BadHome, Daemon, load
 from lazbendix_hub.history import History, why_text
-from lazbendix_hub.home import (BrokerPlace, CronTrigger, DeviceTrigger, EntityTrigger, Home,
-                                RoutineTrigger, SunTrigger, TopicTrigger, Trigger)
+from lazbendix_hub.home import (BrokerPlace, CronTrigger, DeviceTrigger, EntityTrigger, Home, Job,
+                                Routine, RoutineTrigger, SunTrigger, TopicTrigger, Trigger)
 from lazbendix_hub.house import refusal
 from lazbendix_hub.logs import begin_logs
 
@@ -130,13 +130,23 @@ def list_routines(asked: argparse.Namespace) -> int:
     for routine in home.routines:
         label = f" ({routine.label})" if routine.label != routine.name else ""
         print(f"{routine.name}{label}")
-        for command in routine.commands:
-            device = home.devices[command.device]
-            print(f"    {'check' if command.is_check else 'set'} {device.name} to "
-                  f"{device.kind.word(command.value)}{'' if command.is_must else ', if it can'}")
+        for step in range(1, 1 + max(command.step for command in routine.commands)):
+            print(f"    {step_text(step, routine, home)}")
         for trigger in routine.triggers:
             print(f"    when {trigger_text(trigger, home)}")
     return 0
+
+
+def step_text(step: int, routine: Routine, home: Home) -> str:
+    """A step of the routine in words."""
+    commands = [command for command in routine.commands if command.step == step]
+    last = commands[-1]
+    names = dict.fromkeys(home.devices[command.device].name for command in commands)
+    job = "toggle" if commands[0].job is Job.LOAD else last.job.value
+    words = dict.fromkeys(home.devices[command.device].kind.word(command.value)
+                          for command in commands if command.job is not Job.LOAD)
+    between = f"between {' and '.join(words)}" if job == "toggle" else f"to {', '.join(words)}"
+    return f"{job} {', '.join(names)} {between}{'' if last.is_must else ', if it can'}"
 
 
 def trigger_text(trigger: Trigger, home: Home) -> str:

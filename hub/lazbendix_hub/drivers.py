@@ -77,8 +77,15 @@ class DeviceDriver:
     # -- What it is asked
 
     def ask(self) -> None:
-        """Asks it to show itself. One that sleeps would not hear."""
+        """Asks it to show itself. One that sleeps would not hear: of a sensor its last word counts,
+        and of another one nothing does until it speaks."""
         raise NotImplementedError
+
+    def repeat(self) -> None:
+        """Counts its last word as said now, unless that is too old."""
+        if self.value is not None and not self.is_away and not self.is_old():
+            for shown in self.on_shown:
+                shown()
 
     def send(self, payload: Payload) -> None:
         """Sends a command."""
@@ -91,6 +98,10 @@ class DeviceDriver:
     def is_trusted(self) -> bool:
         """Whether the value was told in this life of the hub, or is all that a sleeper tells."""
         return self.is_confirmed or self.device.is_sleepy
+
+    def is_old(self) -> bool:
+        """Whether its last word, where it sleeps, is too long ago."""
+        return time.monotonic() - self.seen_at > self.device.age
 
     async def until(self, is_it: IsIt, begin: Callable[[], None]) -> bool:
         """Begins, and waits until a message shows what is wanted; half way through the limit it
@@ -122,16 +133,18 @@ class DeviceDriver:
 
     async def drive(self, value: int) -> bool:
         """Drives the device; whether it has shown the value."""
-        payload = self.kind.payload(value)
         return await self.until(lambda shown: self.kind.is_near(shown, value),
-                                lambda: self.send(payload))
+                                lambda: self.command(value))
+
+    def command(self, value: int) -> None:
+        """Sends the command that drives the device there."""
+        self.send(self.kind.payload(value))
 
     async def find(self) -> int | None:
         """Where the device stands, none where it does not tell. One that sleeps is asked nothing:
         what it told last counts, unless that is too long ago."""
         if self.device.is_sleepy:
-            is_old = time.monotonic() - self.seen_at > self.device.age
-            return None if self.is_away or is_old else self.value
+            return None if self.is_away or self.is_old() else self.value
         return self.value if await self.until(lambda shown: True, self.ask) else None
 
     async def call(self, go: Go) -> Answer:
@@ -176,11 +189,18 @@ class MqttDriver(DeviceDriver):
             self.told(told, is_retained)
 
     def ask(self) -> None:
-        if not self.device.is_sleepy:
+        if self.kind.is_sensor and self.device.is_sleepy:
+            self.repeat()
+        elif not self.device.is_sleepy:
             self.broker.publish(self.get_topic, json.dumps(self.kind.asked()))
 
     def send(self, payload: Payload) -> None:
         self.broker.publish(self.set_topic, json.dumps(payload))
+
+    def command(self, value: int) -> None:
+        super().command(value)
+        if self.value is not None and self.is_trusted() and self.kind.is_near(self.value, value):
+            self.ask()  # where nothing changes it may say nothing
 
 
 class TasmotaDriver(MqttDriver):

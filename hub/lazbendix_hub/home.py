@@ -3,6 +3,7 @@ from __future__ import annotations
 
 import json
 from dataclasses import dataclass, field
+from enum import Enum
 from typing import Mapping, Union
 
 from lazbendix_hub.kinds import Kind
@@ -77,14 +78,27 @@ class Device:
     wire: Wire | None = None
 
 
+class Job(Enum):
+    """What a command does with its device: drives it to a value, checks that it stands there, or
+    finds out where it stands."""
+
+    SET = "set"
+    CHECK = "check"
+    LOAD = "load"
+
+
 @dataclass(frozen=True)
 class Command:
-    """One step of a routine: to drive a device to a value, or to check that it stands there."""
+    """A command of the core. It belongs to the step of this number of its routine, from 1: a step
+    for a group has several, as has a toggle. `guard` is of what the run has loaded last: `is` or
+    `below`, and a number; where it does not hold the command is skipped."""
 
     device: int
     value: int
-    is_check: bool
+    job: Job
     is_must: bool
+    step: int
+    guard: tuple[str, int] | None = None
 
 
 @dataclass(frozen=True)
@@ -187,11 +201,17 @@ class Home:
         devices = [each.kind.core(each.name, starts.get(each.name, each.kind.low)) for each in core]
         routines = [{"name": each.name, "commands": [self._command(it) for it in each.commands]}
                     for each in self.routines]
-        return json.dumps({"safehome": 1, "devices": devices, "routines": routines,
-                           "windows": []}).encode()
+        has_guards = any(it.guard for each in self.routines for it in each.commands)
+        return json.dumps({"safehome": 2 if has_guards else 1, "devices": devices,
+                           "routines": routines, "windows": []}).encode()
 
     def _command(self, command: Command) -> dict[str, object]:
         device = self.devices[command.device]
         to = device.kind.states[command.value] if device.kind.states else command.value
-        return {"on": device.name, "do": "check" if command.is_check else "set", "to": to,
-                "must": command.is_must}
+        told: dict[str, object] = {"on": device.name, "do": command.job.value,
+                                   "must": command.is_must}
+        if command.job is not Job.LOAD:
+            told["to"] = to
+        if command.guard is not None:
+            told["when"] = {command.guard[0]: command.guard[1]}
+        return told

@@ -240,18 +240,18 @@ class EntityDriver(DeviceDriver):
             self.told(told_of(self.domain, word, attributes), False)
 
     def ask(self) -> None:
-        if not self.device.is_sleepy:
+        if self.kind.is_sensor and self.device.is_sleepy:
+            self.repeat()
+        elif not self.device.is_sleepy:
             self.there.call(("homeassistant", "update_entity"), self.device.topic, {}, self._looked)
 
     def send(self, payload: Payload) -> None:
         service, data = service_of(self.domain, payload)
         self.there.call((self.domain, service), self.device.topic, data, self._answered)
 
-    async def find(self) -> int | None:
-        """One that sleeps is not asked: Home Assistant says itself when it is unavailable."""
-        if self.device.is_sleepy:
-            return None if self.is_away else self.value
-        return await super().find()
+    def is_old(self) -> bool:
+        """Never: Home Assistant says itself when it is unavailable."""
+        return False
 
     def _answered(self, is_done: bool) -> None:
         for _, future in self.waiting:

@@ -22,6 +22,7 @@ from lazbendix_hub.triggers import Triggers
 
 LOG = logging.getLogger("lazbendix.house")
 SETTLING = 5.0  # s: so long the devices have at the start to show themselves
+PATIENCE = 5.0  # s: a broker that has not come up by then is waited for aloud
 RETAINED = 0.6  # s: so long what the broker has kept of one that is not asked
 BACKWARDS = 10.0  # s: the longest time for taking back what a killed hub left
 
@@ -167,7 +168,7 @@ class House:
     async def _settle(self) -> None:
         """Waits for the broker and for Home Assistant, and asks each device where it is."""
         if self.home.broker.host:
-            await self.broker.up.wait()
+            await self._broker_up()
         if any(device.maker == ASSISTANT for device in self.home.devices):
             assert self.assistant is not None
             await self.assistant.link.up.wait()
@@ -182,6 +183,16 @@ class House:
                    for driver in self.drivers):
                 break
             await asyncio.sleep(0.02)
+
+    async def _broker_up(self) -> None:
+        """Waits for the broker, and says so where that lasts."""
+        place = self.home.broker
+        try:
+            await asyncio.wait_for(self.broker.up.wait(), PATIENCE)
+        except asyncio.TimeoutError:
+            LOG.warning("the broker at %s, port %d, does not answer; the hub waits for it",
+                        place.host, place.port)
+            await self.broker.up.wait()
 
     async def _starts(self, kept: dict[str, int], half_done: Sequence[str]) -> dict[str, int]:
         """Where each device is taken to stand: where it was seen, or else where it stood; but for

@@ -49,6 +49,11 @@ class Kind:
         """Whether a device that shows the one value does what the other one asks."""
         return value == wanted
 
+    def toggled(self) -> tuple[int, int] | None:
+        """Where a toggle takes a device that is at rest, and how many values from the least one
+        on count as rest; none where it has no two values to toggle between."""
+        return (1, 1) if len(self.states) == 2 and not self.is_sensor else None
+
     def core(self, name: str, start: int) -> Payload:
         """The device of the core's script."""
         if self.states:
@@ -121,6 +126,9 @@ class Dimmer(Kind):
             return None
         return min(max(1, round(level)), self.high)
 
+    def toggled(self) -> tuple[int, int] | None:
+        return self.high, 1
+
     def asked(self) -> Payload:
         return {self.switch: "", self.level: ""}
 
@@ -164,6 +172,9 @@ class Steps(Kind):
         if number is None:
             return None
         return round(min(max((number - self.least) / self.step, 0), self.high))
+
+    def toggled(self) -> tuple[int, int] | None:
+        return (self.high, 1 + int(self.tolerance)) if self.named else None
 
     def asked(self) -> Payload:
         return {self.prop: ""}

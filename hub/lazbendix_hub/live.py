@@ -18,7 +18,7 @@ from lazbendix import (Answer, Dead, Entry, EntryKind, Found, Go, ItemKind, Move
 
 from lazbendix_hub.again import Window
 from lazbendix_hub.calls import Calls
-from lazbendix_hub.home import ASSISTANT, Home
+from lazbendix_hub.home import ASSISTANT, Home, Job
 from lazbendix_hub.kinds import Kind
 from lazbendix_hub.ledger import Accepted, Ledger, Records
 from lazbendix_hub.words import cause_kind, cause_text, waits_text
@@ -453,7 +453,7 @@ class LiveHub:
         """The names of the devices that the window may drive."""
         numbers = {command.device for run in self.runs.values()
                    for command in self.home.routines[run.trigger.routine].commands
-                   if not command.is_check}
+                   if command.job is Job.SET}
         return [self.home.devices[number].name for number in sorted(numbers | self.down)]
 
     def _close(self) -> None:

@@ -28,7 +28,7 @@ class Mosquitto:
     def start(self) -> None:
         """Starts it, and returns when it listens. Raises `FileNotFoundError` where there is none,
         `TimeoutError` where it does not come up."""
-        found = shutil.which("mosquitto") or shutil.which("mosquitto", path="/usr/sbin")
+        found = find_mosquitto()
         if found is None:
             raise FileNotFoundError("there is no mosquitto: apt install mosquitto")
         self.process = subprocess.Popen([found, "-c", self.config], stdout=subprocess.DEVNULL,
@@ -48,6 +48,11 @@ class Mosquitto:
             self.process.terminate()
             self.process.wait()
             self.process = None
+
+
+def find_mosquitto() -> str | None:
+    """The program, none where there is none."""
+    return shutil.which("mosquitto") or shutil.which("mosquitto", path="/usr/sbin")
 
 
 def free_port() -> int:

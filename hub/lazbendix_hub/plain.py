@@ -54,10 +54,13 @@ class PlainDriver(MqttDriver):
         return {"value": number_of(word) if isinstance(self.kind, kinds.Steps) else word}
 
     def ask(self) -> None:
-        """It is not asked; one that is down is tried again, as if it had shown itself."""
-        if self.value is not None and not self.is_away:
-            for shown in self.on_shown:
-                shown()
+        """It is not asked: its last word counts, also for a command that changes nothing, after
+        which it may say nothing."""
+        for is_it, future in self.waiting:
+            if not self.is_away and not self.is_old() and not future.done() \
+                    and self.value is not None and is_it(self.value):
+                future.set_result(True)
+        self.repeat()
 
     def send(self, payload: Payload) -> None:
         if "value" in payload and not self.wire.is_json:

@@ -9,15 +9,16 @@ from croniter import croniter
 
 from lazbendix_hub import kinds
 from lazbendix_hub.home import (ASSISTANT, MAKERS, PLAIN, AssistantPlace, BrokerPlace, Command,
-                                CronTrigger, Device, DeviceTrigger, EntityTrigger, Home, PagePlace,
-                                Routine, RoutineTrigger, SunTrigger, TopicTrigger, Trigger, Wire)
+                                CronTrigger, Device, DeviceTrigger, EntityTrigger, Home, Job,
+                                PagePlace, Routine, RoutineTrigger, SunTrigger, TopicTrigger,
+                                Trigger, Wire)
 from lazbendix_hub.kinds import BadWord, Kind
 from lazbendix_hub.yamls import Mistake, Mistakes, Node, Table, read_yaml, seconds_of, shown
 
 NAME = re.compile(r"[a-z][a-z0-9_-]{0,31}")
 MOST_DEVICES, MOST_ROUTINES, MOST_COMMANDS, MOST_STATES = 256, 1024, 64, 256
 TOP = ("broker", "home-assistant", "page", "base", "zigbee2mqtt", "discovery", "place", "limit",
-       "gather", "devices", "routines")
+       "gather", "devices", "groups", "routines")
 KINDS = ("switch", "plug", "dimmer", "blinds", "lock", "valve", "climate", "colour-temperature",
          "colour", "contact", "motion", "thermometer", "number", "choice")
 OTHER_NAMES = {"color": "colour", "color-temperature": "colour-temperature", "light": "dimmer",
@@ -36,7 +37,7 @@ STEPPED = {"zigbee2mqtt": ("position", "occupied_heating_setpoint", "temperature
            "tasmota": ("ShutterPosition1", "", "", ""),
            ASSISTANT: ("current_position", "temperature", "number", "number"),
            PLAIN: ("value", "value", "value", "value")}
-DO = ("set", "check")
+DO = ("set", "check", "toggle")
 
 
 def read_home(text: str) -> tuple[Home | None, list[Mistake]]:
@@ -53,6 +54,7 @@ class _Reader:
         self.mistakes = mistakes
         self.devices: dict[str, Device | None] = {}
         self.lines: dict[str, int] = {}
+        self.groups: dict[str, list[str]] = {}
 
     def home(self, tree: Node) -> Home:
         top = Table(tree, "the file", self.mistakes)
@@ -73,6 +75,7 @@ class _Reader:
         listed = top.get("devices", True)
         if listed is not None:
             self.read_devices(listed, limit)
+        self.read_groups(top.get("groups"))
         routines, order = self.read_routines(top.get("routines", True), place)
         top.end()
         return self.arrange(Home(broker, assistant, page, base, zigbee,
@@ -90,8 +93,7 @@ class _Reader:
         at = {old: numbers[name] for old, name in enumerate(order)}
         arranged = []
         for routine in routines:
-            commands = tuple(Command(at[it.device], it.value, it.is_check, it.is_must)
-                             for it in routine.commands)
+            commands = tuple(replace(it, device=at[it.device]) for it in routine.commands)
             triggers = tuple(DeviceTrigger(at[it.device], it.how, it.value, it.after)
                              if isinstance(it, DeviceTrigger) else it for it in routine.triggers)
             arranged.append(Routine(routine.name, routine.label, commands, triggers,
@@ -417,40 +419,109 @@ class _Reader:
         if not node.items or len(node.items) > MOST_COMMANDS:
             own.wrong(node, "do", f"a list of 1 to {MOST_COMMANDS} commands")
             return found
-        for item in node.items:
-            command = self.command(item, order)
-            if command is not None:
-                found.append(command)
+        for step, item in enumerate(node.items, 1):
+            found += self.command(item, order, step)
+        if len(found) > MOST_COMMANDS:
+            own.wrong(node, "do", f"at most {MOST_COMMANDS} commands, counting each device of a "
+                                  "group, and each toggle three times or more")
         return found
 
-    def command(self, item: Node, order: list[str]) -> Command | None:
+    def command(self, item: Node, order: list[str], step: int) -> list[Command]:
+        """What a line of `do` is for the core; nothing where it is wrong."""
         table = Table(item, "a command", self.mistakes)
         if item.table is None:
-            return None
+            return []
         jobs = [job for job in DO if table.has(job)]
         if len(jobs) != 1:
-            for job in DO:
-                table.get(job)
-            for key in ("to", "optional"):
+            for key in (*DO, "to", "optional"):
                 table.get(key)
-            self.mistakes.add(item.line, "a command has one of `set: DEVICE` and `check: DEVICE`")
+            self.mistakes.add(item.line, "a command has one of `set: DEVICE`, `check: DEVICE` and "
+                                         "`toggle: DEVICE`")
             table.end()
-            return None
+            return []
         name = table.text(jobs[0])
-        device = self.known(table, jobs[0], name)
-        value = self.value(table, "to", device)
+        devices = self.meant(table, jobs[0], name)
+        values = self.values(table, devices, jobs[0] != "toggle")
         is_must = not table.flag("optional")
         table.end()
-        if device is None:
-            return None
-        if jobs[0] == "set" and device.kind.is_sensor:
-            self.mistakes.add(item.line, f"`{name}` only tells, and is never set")
-        return Command(order.index(name), value or 0, jobs[0] == "check", is_must)
+        for device in devices if jobs[0] != "check" else ():
+            if device.kind.is_sensor:
+                self.mistakes.add(item.line, f"`{device.name}` only tells, and is never set")
+        at = [order.index(device.name) for device in devices]
+        if jobs[0] == "toggle":
+            return self.toggle(item, devices, at, values, is_must, step)
+        return [Command(number, value or 0, Job(jobs[0]), is_must, step)
+                for number, value in zip(at, values)]
+
+    def toggle(self, item: Node, devices: list[Device], at: list[int], values: list[int | None],
+               is_must: bool, step: int) -> list[Command]:
+        """The first device is asked where it stands; where it is at rest all go to the other value,
+        and else to rest. A guard can only ask for less, or for one value: so a device with more
+        than two values is brought to rest first, and then to the other value."""
+        found = []
+        for number, device, value in zip(at, devices, values):
+            both = device.kind.toggled()
+            if both is None:
+                self.mistakes.add(item.line, f"`{device.name}` has no two values to toggle between")
+                return []
+            to = both[0] if value is None else value
+            if to < both[1]:
+                self.mistakes.add(item.line, f"a toggle takes `{device.name}` from "
+                                             f"{device.kind.word(device.kind.low)} to another "
+                                             "value, and back")
+            found.append((number, device.kind.low, to))
+        if not found:
+            return []
+        first = devices[0].kind
+        bound = (first.toggled() or (1, 1))[1]
+        rests = ("is", 1) if first.high == 1 else None
+        commands = [Command(found[0][0], 0, Job.LOAD, is_must, step)]
+        for number, low, to in found:
+            commands.append(Command(number, low, Job.SET, is_must, step, rests))
+            commands.append(Command(number, to, Job.SET, is_must, step, ("below", bound)))
+        return commands
+
+    def read_groups(self, node: Node | None) -> None:
+        if node is None:
+            return
+        table = Table(node, "`groups`", self.mistakes)
+        for name, row in table.rows.items():
+            self.name(name, node.keys[name], "group")
+            if name in self.devices:
+                self.mistakes.add(node.keys[name], f"`{name}` is the name of a device already")
+            if not row.items:
+                self.mistakes.add(row.line, f"`{name}` is to be a list of devices, and is "
+                                            f"{shown(row.what)}")
+            names = [each.raw or "" for each in row.items or []]
+            for at, each in enumerate(names):
+                if each not in self.devices:
+                    self.mistakes.unknown(row.line, "device", each, self.devices)
+                elif each in names[:at]:
+                    self.mistakes.add(row.line, f"`{each}` is in the group `{name}` twice")
+            self.groups[name] = names
+
+    def meant(self, table: Table, key: str, name: str) -> list[Device]:
+        """The devices of a name, which may be that of a group."""
+        names = self.groups.get(name, [name])
+        if name and name not in self.devices and name not in self.groups:
+            self.mistakes.unknown(table.rows[key].line, "device", name,
+                                  [*self.devices, *self.groups])
+        found = (self.devices.get(each) for each in names)
+        return [device for device in found if device is not None]
 
     def known(self, table: Table, key: str, name: str) -> Device | None:
-        if name and name not in self.devices:
+        if name in self.groups:
+            self.mistakes.add(table.rows[key].line, f"`{name}` is a group, and one device is "
+                                                    "wanted")
+        elif name and name not in self.devices:
             self.mistakes.unknown(table.rows[key].line, "device", name, self.devices)
         return self.devices.get(name)
+
+    def values(self, table: Table, devices: list[Device], is_wanted: bool) -> list[int | None]:
+        """The value of `to` for each device."""
+        if not devices:
+            table.get("to", is_wanted)
+        return [self.value(table, "to", device, is_wanted) for device in devices]
 
     def value(self, table: Table, key: str, device: Device | None, is_wanted: bool = True
               ) -> int | None:

@@ -21,6 +21,7 @@ class Manner:
     fails: float = 0.0
     blinds: float = 0.5  # s for the whole way
     has_offline: bool = True  # whether one that goes away is said to be offline
+    is_silent: bool = False  # whether a command that changes nothing is not answered
 
 
 class Simulated:
@@ -95,10 +96,11 @@ class Simulated:
             is_lost = self.draw.random() < self.manner.fails
             if is_lost and self.draw.random() < 0.5:
                 continue  # the command was lost; else its answer is
+            is_same = job is not None and job.items() <= self.state.items()
             if job is not None:
                 self.commands += 1
                 await self._do(job)
-            if not is_lost:
+            if not is_lost and not (is_same and self.manner.is_silent):
                 self.show()
 
     async def _do(self, job: dict[str, Any]) -> None:

@@ -28,9 +28,9 @@ def cause_text(entry: Entry, home: Home, routine: int) -> str:
     """Why a run is taken back."""
     commands = home.routines[routine].commands
     device = home.devices[entry.device].label if entry.device < home.core_count else "a device"
-    step = f"step {entry.command + 1}"
-    at = device
+    step, at = "a step", device
     if entry.command < len(commands):
+        step = f"step {commands[entry.command].step}"
         at = home.devices[commands[entry.command].device].label
     match entry.cause:
         case Cause.MUST_DOWN:

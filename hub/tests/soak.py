@@ -24,7 +24,7 @@ from lazbendix_hub.history import History
 from lazbendix_hub.mosquitto import Mosquitto, free_port
 from lazbendix_hub.reading import read_home
 from lazbendix_hub.simulated import Manner, make_devices
-from tests.stage import TOP
+from tests.stage import TOP, want_mosquitto
 
 HOME = """
 limit: 0.4
@@ -90,7 +90,7 @@ class Soak:
 
     async def up(self, web: aiohttp.ClientSession) -> None:
         """Waits for the hub."""
-        end = time.monotonic() + 30
+        end = time.monotonic() + 120
         while not await self.is_there(web):
             assert time.monotonic() < end, "the hub did not come up"
             await asyncio.sleep(0.02)
@@ -186,10 +186,10 @@ class Soak:
 
     async def rest(self, web: aiohttp.ClientSession) -> None:
         """Waits until nothing runs, nothing waits and no device is down."""
-        end = time.monotonic() + 60
-        calm = 0
+        end = time.monotonic() + 180  # a device that is down is asked ever more seldom
+        calm, state = 0, None
         while calm < 5:
-            assert time.monotonic() < end, "it did not come to rest"
+            assert time.monotonic() < end, f"it did not come to rest: {state}"
             state = await self.state(web)
             is_calm = state and not state.get("opening") and not state["open"] \
                 and not state["queue"] and all(each["up"] for each in state["devices"])
@@ -237,6 +237,7 @@ class Soak:
 def soak(triggers: int, kills: int, brokers: int, seed: int = 1, gap: float = 0.03
          ) -> dict[str, Any]:
     """Plays a soak, and answers what came of it."""
+    want_mosquitto()
     with tempfile.TemporaryDirectory() as folder:
         play = Soak(folder, triggers, kills, brokers, seed, gap)
         try:

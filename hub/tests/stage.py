@@ -8,6 +8,7 @@ import subprocess
 import sys
 import tempfile
 import time
+import unittest
 from typing import Any, Callable
 
 from lazbendix_hub.broker import Broker
@@ -15,7 +16,7 @@ from lazbendix_hub.home import Home
 from lazbendix_hub.house import House
 from lazbendix_hub.ledger import Ledger, Records
 from lazbendix_hub.live import Ended, Watcher
-from lazbendix_hub.mosquitto import Mosquitto
+from lazbendix_hub.mosquitto import Mosquitto, find_mosquitto
 from lazbendix_hub.reading import read_home
 from lazbendix_hub.simulated import Manner, Simulated, make_devices
 
@@ -52,6 +53,12 @@ class Ends(Watcher):
 
     def ended(self, ended: Ended) -> None:
         self.all.append(ended)
+
+
+def want_mosquitto() -> None:
+    """Where there is no mosquitto the test is passed over."""
+    if find_mosquitto() is None:
+        raise unittest.SkipTest("there is no mosquitto")
 
 
 def read(text: str) -> Home:
@@ -94,8 +101,10 @@ class Stage:
         self.ends = Ends()
         self.killed: list[Ledger] = []
         self.draw = random.Random(1)
+        self.mark = self.last_mark = 0
 
     async def __aenter__(self) -> "Stage":
+        want_mosquitto()
         self.mosquitto.start()
         self.sim = Broker("simulated", "")
         self.sim.connect("127.0.0.1", self.mosquitto.port)
@@ -167,6 +176,20 @@ class Stage:
         await self.quiet()
         told = {each.trigger: each for each in self.ends.all}
         return [told[number] for number in numbers]
+
+    async def heard(self, by: Broker | None = None) -> None:
+        """Returns when the hub, or whoever is named, has heard all that the simulated devices have
+        said so far."""
+        self.mark += 1
+        listener, wanted = by or self.broker, self.mark
+
+        def hear(topic: str, payload: bytes, is_retained: bool) -> None:
+            self.last_mark = max(self.last_mark, int(payload))
+        if "tests/mark" not in listener.heard:
+            listener.subscribe("tests/mark", hear)
+        while self.last_mark < wanted:
+            self.sim.publish("tests/mark", str(wanted))
+            await asyncio.sleep(0.01)
 
     async def quiet(self, seconds: float = 20) -> None:
         """Waits until nothing is open and nothing waits."""

@@ -9,11 +9,10 @@ import unittest
 
 from lazbendix_hub.broker import Broker
 from lazbendix_hub.home import CronTrigger, SunTrigger, TopicTrigger
-from lazbendix_hub.kinds import BadWord, Dimmer, Named, Palette, Steps
 from lazbendix_hub.live import LiveHub
 from lazbendix_hub.times import next_time, sun_time
 from lazbendix_hub.triggers import matches
-from tests.stage import HOME, Stage, read, until
+from tests.stage import HOME, Stage, until
 from tests.whole import Whole
 
 UTC = datetime.timezone.utc
@@ -36,6 +35,8 @@ routines:
 
 class Triggered(unittest.IsolatedAsyncioTestCase):
     async def told(self, stage: Stage, least: int = 0) -> list[str]:
+        """The routines that have ended, when all that was said is heard, and nothing runs."""
+        await stage.heard()
         await until(lambda: len(stage.ends.all) >= least)
         await stage.quiet()
         names = [each.routine for each in stage.ends.all]
@@ -43,58 +44,60 @@ class Triggered(unittest.IsolatedAsyncioTestCase):
         return names
 
     async def test_off_after_is_cancelled_by_a_new_motion(self) -> None:
-        async with Stage(TRIGGERED) as stage:
-            hall = stage.devices["hall"]
-            hall.turn(1)
-            await asyncio.sleep(0.1)
+        async with Stage(TRIGGERED.replace("after: 0.4s", "after: 3s")) as stage:
+            hall, timers = stage.devices["hall"], stage.house.triggers.timers
+            for value, count in ((1, 0), (0, 1), (1, 0)):  # the last one before the 3 s are over
+                hall.turn(value)
+                await stage.heard()
+                self.assertEqual(len(timers), count)
+            self.assertEqual(await self.told(stage, 2), ["light", "light"])
             hall.turn(0)
-            await asyncio.sleep(0.25)
-            hall.turn(1)  # before the 0.4 s are over
-            await asyncio.sleep(0.3)
-            self.assertEqual(await self.told(stage), ["light", "light"])
-            hall.turn(0)
-            await asyncio.sleep(0.6)
-            self.assertEqual(await self.told(stage), ["dark"])
+            self.assertEqual(await self.told(stage, 1), ["dark"])
             self.assertEqual(stage.devices["lamp"].value, 0)
 
     async def test_off_after_is_kept_over_a_restart(self) -> None:
-        text = TRIGGERED.replace("after: 0.4s", "after: 2s")
+        text = TRIGGERED.replace("after: 0.4s", "after: 4s")
         for is_turned in (False, True):
             async with Stage(text) as stage:
                 hall = stage.devices["hall"]
                 hall.turn(1)
-                await asyncio.sleep(0.1)
+                self.assertEqual(await self.told(stage, 1), ["light"])
                 hall.turn(0)
-                await until(lambda: stage.house.triggers.timers)
-                self.assertEqual(await self.told(stage), ["light"])
+                self.assertEqual(await self.told(stage), [])
+                self.assertEqual(len(stage.house.triggers.timers), 1)
                 await stage.kill()
                 if is_turned:
                     hall.turn(1)  # while the hub is away
                 await stage.open()
                 self.assertEqual(len(stage.house.triggers.timers), 0 if is_turned else 1)
-                await asyncio.sleep(2.2)
-                self.assertEqual(await self.told(stage), [] if is_turned else ["dark"])
+                if is_turned:
+                    await asyncio.sleep(4.2)
+                self.assertEqual(await self.told(stage, 0 if is_turned else 1),
+                                 [] if is_turned else ["dark"])
 
     async def test_by_messages(self) -> None:
-        async with Stage(TRIGGERED) as stage:
+        async with Stage(TRIGGERED.replace("after: 0.4s", "after: 3s")) as stage:
+            await stage.heard()  # so its subscriptions are there
             stage.sim.publish("z/button", '{"action": "double"}')
             stage.sim.publish("z/any", "x", True)
             stage.sim.publish("z/button", '{"action": "single"}')
             self.assertEqual(await self.told(stage, 2), ["button"] * 2)
+            timers = stage.house.triggers.timers
+            before = dict(timers)
+            self.assertEqual(len(before), 1)
             stage.begin("button")  # puts off what is to be done later
-            await asyncio.sleep(0.3)
-            self.assertEqual(await self.told(stage), ["button"])
-            await asyncio.sleep(0.4)
-            self.assertEqual(await self.told(stage), ["later"])
+            self.assertEqual(timers, {})
+            self.assertEqual(await self.told(stage, 1), ["button"])
+            self.assertEqual((len(timers), timers == before), (1, False))
+            self.assertEqual(await self.told(stage, 1), ["later"])
             stage.sim.publish("lazbendix/routine/light/run", "run")
             stage.sim.publish("lazbendix/routine/light/run", "walk")
-            await asyncio.sleep(0.2)
             self.assertEqual(await self.told(stage), ["light"])
 
     async def test_a_retained_command_begins_nothing(self) -> None:
         async with Stage(TRIGGERED) as stage:
+            await stage.heard()  # so its subscriptions are there
             stage.sim.publish("lazbendix/routine/light/run", "run", True)
-            await asyncio.sleep(0.2)
             self.assertEqual(await self.told(stage), ["light"])
             await stage.close()
             await stage.open()
@@ -106,7 +109,6 @@ class Triggered(unittest.IsolatedAsyncioTestCase):
             inside = stage.devices["inside"]
             for degrees, names in ((20, []), (17.9, ["cold"]), (17, []), (19, []), (10, ["cold"])):
                 inside.turn(inside.kind.of_word(str(degrees)))
-                await asyncio.sleep(0.15)
                 self.assertEqual(await self.told(stage), names, degrees)
 
     def test_messages(self) -> None:
@@ -164,46 +166,6 @@ class Times(unittest.TestCase):
         polar = next_time(SunTrigger(True, 0), after, (78, 15))
         assert polar is not None
         self.assertEqual(polar.month, 2)
-
-
-class Kinds(unittest.TestCase):
-    def test_each_value_is_found_again(self) -> None:
-        for device in read(HOME).devices:
-            kind = device.kind
-            for value in range(kind.low, min(kind.high, 400) + 1):
-                self.assertEqual(kind.value(kind.payload(value)), value)
-                self.assertEqual(kind.of_word(kind.word(value)), value, device.name)
-
-    def test_tolerance(self) -> None:
-        lamp, blinds, heat = Dimmer(1), Steps("position", 0, 100, 1, 2), Steps("t", 5, 30, 0.5)
-        self.assertTrue(lamp.is_near(119, 120))
-        self.assertFalse(lamp.is_near(0, 1))  # off is not nearly on
-        self.assertTrue(blinds.is_near(98, 100))
-        self.assertFalse(blinds.is_near(97, 100))
-        self.assertEqual((heat.of_word("21.5"), heat.word(33)), (33, "21.5"))
-        palette = Palette({"warm": (0.46, 0.41), "red": (0.68, 0.31)})
-        self.assertEqual(palette.value({"color": {"x": 0.463, "y": 0.406}}), 0)
-        self.assertIsNone(palette.value({"color": {"x": 0.3, "y": 0.3}}))
-
-    def test_words(self) -> None:
-        lamp = Dimmer()
-        for word, value in (("on", 254), ("off", 0), ("0%", 0), ("100%", 254), ("1%", 3), ("7", 7)):
-            self.assertEqual(lamp.of_word(word), value)
-        for word in ("255", "-1", "1.5", "101%", "nan", "%", "", "inf"):
-            self.assertRaises(BadWord, lamp.of_word, word)
-
-    def test_any_payload(self) -> None:
-        kinds = [device.kind for device in read(HOME).devices]
-        hostile: tuple[dict[str, object], ...] = (
-            {"state": []}, {"brightness": "7"}, {"brightness": 1e400}, {"position": None},
-            {"brightness": 10**400}, {"color": 3}, {"color": {"x": {}, "y": 1}}, {"contact": 1},
-            {"POWER": True}, {"state": {"state": 1}}, {"occupied_heating_setpoint": True},
-            {"brightness": float("nan")})
-        for told in hostile:
-            for kind in kinds:
-                self.assertIsNone(kind.value(told), told)
-        self.assertEqual(Steps("p", 0, 100).value({"p": -1e300}), 0)
-        self.assertIsNone(Named("s", {"a": [True], "b": ["x"]}).value({"s": 1}))
 
 
 class HomeAssistant(unittest.IsolatedAsyncioTestCase):

@@ -138,7 +138,9 @@ class Day:
         self.folder, self.draw, self.ends = folder, random.Random(seed), Ends()
         self.home, self.room = read(HOME), Room()
         self.acknowledged: set[int] = set()
+        self.unheard = 0  # triggers that came while no hub was there
         self.lives = 0
+        self.is_open = False
 
     async def begin(self) -> None:
         """A life of the hub."""
@@ -146,10 +148,12 @@ class Day:
         self.ledger = Ledger(self.folder)
         self.house = House(self.home, End(self.room), self.ledger, Records(self.folder))
         await self.house.open(self.ledger.kept, [self.ends])
+        self.is_open = True
 
     async def kill(self) -> None:
         """Its end, at any moment."""
         assert self.house.task is not None
+        self.is_open = False
         self.house.task.cancel()
         await asyncio.gather(self.house.task, return_exceptions=True)
         for out in self.house.live.out.values():
@@ -177,6 +181,9 @@ class Day:
             await self.begin()
         for task in world:
             task.cancel()
+        for came in await asyncio.gather(*world, return_exceptions=True):
+            if not isinstance(came, asyncio.CancelledError):
+                raise AssertionError("the world has ended before the day") from came
         await self.rest()
 
     async def often(self, mean: float, does: Callable[[], Awaitable[None]]) -> None:
@@ -189,6 +196,9 @@ class Day:
         """They begin routines."""
         async def one() -> None:
             number = self.draw.randrange(len(self.home.routines))
+            if not self.is_open:  # while it is killed, and while it opens its home again
+                self.unheard += 1
+                return
             trigger = self.house.live.begin(number, "http")
             if trigger is not None:
                 self.ledger.sync()
@@ -280,7 +290,9 @@ class Simulated(unittest.TestCase):
         self.assertEqual(day.strayed, [])
         runs = {each.trigger for each in day.ends.all if each.outcome != "expired"}
         self.assertRegex(said, f"^[0-9]+ windows with {len(runs)} runs agree$")
-        self.assertGreater(len(runs), 1500)
+        # 1,920 drawn triggers of people are the mean, with a deviation of 44.
+        self.assertGreater(len(day.acknowledged), 1700)
+        self.assertLess(day.unheard, 12)
         by_time = [(each.routine, each.source) for each in day.ends.all
                    if each.source.startswith(("cron", "sun"))]
         self.assertEqual(sorted({source for _, source in by_time if "cron" in source}),

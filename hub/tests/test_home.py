@@ -76,6 +76,41 @@ MISTAKES = [
 ]
 
 
+DO = "routines: {a: {do: [{set: d, to: on}]}}\n"
+# A whole text, the line of the mistake, and a part of what is told.
+WHOLE = [
+    (f"devices: {{}}\n{DO}", 1, "there is no device"),
+    ("devices: {d: {kind: plug}}\nroutines: {}\n", 2, "there is no routine"),
+    (DO, 1, "the file has no `devices`"),
+    ("devices: {d: {kind: plug}}\n", 1, "the file has no `routines`"),
+    (f"devices:\n  d: {{kind: choice, property: p, values: {{a: [1], b: B}}}}\n{DO}", 2,
+     "`a` is to be a word, and is a list"),
+    (f"devices:\n  d: {{kind: choice, property: p, values: {{a: A}}}}\n{DO}", 2,
+     "there are 1 values, and have to be 2 to 256"),
+    (f"devices:\n  d: {{kind: choice, values: {{a: A, b: B}}}}\n{DO}", 2, "has no `property`"),
+    (f"devices:\n  d: {{kind: colour, values: {{a: [1, 2], b: [0.1, 0.2]}}}}\n{DO}", 2,
+     "`a` is to be a point of colour"),
+    (f"devices:\n  d: {{kind: plug, label: ''}}\n{DO}", 2, "`label` of device `d` is to be a text"),
+    (f"devices:\n  d: {{kind: plug, label: {'x' * 401}}}\n{DO}", 2, "400 printable characters"),
+    ("devices: {d: {kind: plug}}\nroutines:\n  a: {do: [{set: d, to: on}], when: noon}\n", 3,
+     "`when` of routine `a` is to be a list of triggers"),
+    ("devices: {d: {kind: plug}}\nroutines:\n  a: {do: [{set: d, to: on}], when: [{at: 7}]}\n", 3,
+     "a trigger has one of topic, entity, cron, sun, device, routine"),
+    ("home-assistant: {token: x}\ndevices: {d: {kind: plug}}\nroutines:\n"
+     "  a: {do: [{set: d, to: on}], when: [{entity: Button}]}\n", 4, "an entity as input_button"),
+    ("devices: {d: {kind: plug}}\nroutines:\n"
+     "  a: {do: [{set: d, to: on}], when: [{entity: a.b}]}\n", 3, "an entity wants"),
+    ("[a]: 3\n", 1, "a key that is no word"), ("", 1, "the file is empty"),
+    ("\n" + "[" * 21 + "]" * 21, 2, "more than 20 deep"), ("a: 1\nb: \x07\n", 2, "does not take"),
+    ("# " + "x" * 1_000_000, 1, "more than 1000000 bytes"),
+    ("devices:\n" + "".join(f"  d{at}: {{kind: plug}}\n" for at in range(257)) + "routines:\n"
+     + "".join(f"  r{at}: {{do: [{{set: d{at}, to: on}}]}}\n" for at in range(257)), 1,
+     "routines use 257 devices, and may use 256"),
+    ("devices: {d: {kind: plug}}\nroutines:\n" + "".join(
+        f"  r{at}: {{do: [{{set: d, to: on}}]}}\n" for at in range(1025)), 3,
+     "there are 1025 routines, and may be 1024")]
+
+
 class Homes(unittest.TestCase):
     def test_fine(self) -> None:
         home = read(FINE)
@@ -98,6 +133,14 @@ class Homes(unittest.TestCase):
                 home, found = read_home(FINE.replace(old, new, 1))
                 if not part:
                     continue
+                self.assertIsNone(home)
+                self.assertTrue(any(each.line == line and part in each.text for each in found),
+                                [str(each) for each in found])
+
+    def test_mistakes_of_whole_files(self) -> None:
+        for text, line, part in WHOLE:
+            with self.subTest(part=part):
+                home, found = read_home(text)
                 self.assertIsNone(home)
                 self.assertTrue(any(each.line == line and part in each.text for each in found),
                                 [str(each) for each in found])

@@ -11,6 +11,7 @@ from lazbendix_hub.importing import Announced, entities, imported, imported_enti
 from lazbendix_hub.mosquitto import Mosquitto, free_port
 from lazbendix_hub.reading import read_home
 from tests.assistant import TOKEN, Assistant, Attributes
+from tests.stage import want_mosquitto
 
 
 def thing(name: str, *exposes: object) -> dict[str, object]:
@@ -75,6 +76,7 @@ TASMOTA: list[dict[str, object]] = [
 class Imports(unittest.IsolatedAsyncioTestCase):
     async def announced(self) -> str:
         """The home.yaml of what is announced at a broker."""
+        want_mosquitto()
         with tempfile.TemporaryDirectory() as folder:
             mosquitto = Mosquitto(folder)
             mosquitto.start()

@@ -46,6 +46,23 @@ class Kills(unittest.IsolatedAsyncioTestCase):
             self.fits(stage)
             self.assertIn(f"with {len(begun)} runs agree", stage.check())
 
+    async def test_a_sensor_that_is_back_meanwhile(self) -> None:
+        async with Stage(SLOW) as stage:
+            window = stage.devices["window"]
+            window.leave()
+            await until(lambda: stage.live.down)
+            await stage.run("evening")  # with it the log is on the disk
+            await stage.kill()
+            window.turn(1)
+            window.come()  # it says so while no hub is there, and then nothing for a long time
+            await stage.heard(by=stage.sim)
+            await stage.open()
+            await until(lambda: not stage.live.down, 20)
+            told, = await stage.run("leave")
+            self.assertEqual((told.outcome, told.cause), ("committed", ""))
+            self.fits(stage)
+            self.assertIn("runs agree", stage.check())
+
     async def test_twice_in_one_window_with_a_device_that_is_lost(self) -> None:
         async with Stage(SLOW, Manner(late=0.02, blinds=3.0)) as stage:
             stage.devices["door"].leave()

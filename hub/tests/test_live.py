@@ -47,6 +47,14 @@ class Live(unittest.IsolatedAsyncioTestCase):
             self.assertEqual(stage.stands()["door"], ("locked", "locked", True))
             self.assertIn("runs agree", stage.check())
 
+    async def test_one_that_says_nothing_where_nothing_changes(self) -> None:
+        async with Stage(HOME.replace("limit: 5s", "limit: 60s"),
+                         Manner(late=0.02, blinds=0.3, is_silent=True)) as stage:
+            await stage.run("film", "evening")
+            told = await stage.run("film", "evening")  # it is asked at once, and not after 30 s
+            self.assertEqual([each.outcome for each in told], ["committed"] * 2)
+            self.assertLess(max(each.took for each in told), 20_000)
+
     async def test_one_that_says_that_it_is_away(self) -> None:
         async with Stage(SLOW) as stage:
             stage.devices["door"].leave()

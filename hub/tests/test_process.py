@@ -5,6 +5,7 @@ import sys
 import tempfile
 import unittest
 
+from lazbendix_hub.mosquitto import find_mosquitto, free_port
 from tests.soak import HOME, soak
 from tests.stage import TOP
 
@@ -47,6 +48,17 @@ class Command(unittest.TestCase):
             raw.write(b"\xff\xfe\x00")
         self.assertEqual(command("check", self.path).returncode, 1)
 
+    def test_a_broker_that_is_not_there(self) -> None:
+        with open(self.path, "a", encoding="utf-8") as file:
+            file.write(f"broker: {{port: {free_port()}}}\npage: {{port: {free_port()}}}\n")
+        words = [sys.executable, "-m", "lazbendix_hub", "run", self.path, "--plain", "--folder",
+                 os.path.join(self.room.name, "data")]
+        with subprocess.Popen(words, stderr=subprocess.PIPE, text=True) as hub:
+            assert hub.stderr is not None
+            self.assertRegex(hub.stderr.readline(), "the broker at 127.0.0.1, port .*, does not")
+            hub.terminate()
+            self.assertEqual(hub.wait(60), 0)
+
     def test_routines(self) -> None:
         ran = command("routines", self.path)
         self.assertEqual(ran.returncode, 0)
@@ -62,6 +74,7 @@ class Command(unittest.TestCase):
         self.assertEqual(command("check", demo).returncode, 0)
         self.assertIn("min before sunset", command("routines", demo).stdout)
 
+    @unittest.skipUnless(find_mosquitto(), "there is no mosquitto")
     def test_demo(self) -> None:
         ran = command("demo", "--seconds", "10", "--port", "0", "--no-browser")
         self.assertEqual(ran.returncode, 0, ran.stderr)

@@ -16,12 +16,12 @@ from tests.stage import Stage
 
 NAMES = ("lamp", "glow", "shelf")
 TEXT = """
-limit: 0.6
+limit: 20s
 devices:
   lamp: {kind: dimmer}
   glow: {kind: dimmer}
   shelf: {kind: dimmer}
-  gone: {kind: dimmer}
+  gone: {kind: dimmer, limit: 0.6}
 routines:
   evening: {do: [{set: lamp, to: 20}, {set: glow, to: 20}, {set: shelf, to: 20}]}
   guests: {do: [{set: shelf, to: 250}, {set: glow, to: 250}, {set: lamp, to: 250}]}

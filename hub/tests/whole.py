@@ -12,7 +12,7 @@ from lazbendix_hub.broker import Broker
 from lazbendix_hub.daemon import Daemon, load
 from lazbendix_hub.mosquitto import Mosquitto, free_port
 from lazbendix_hub.simulated import Manner, make_devices
-from tests.stage import HOME, until
+from tests.stage import HOME, until, want_mosquitto
 
 
 class Whole:
@@ -22,6 +22,7 @@ class Whole:
         self.text, self.page = text, page
 
     async def __aenter__(self) -> "Whole":
+        want_mosquitto()
         self.room = tempfile.TemporaryDirectory()
         self.folder = self.room.name
         self.mosquitto = Mosquitto(self.folder)
