@@ -143,6 +143,11 @@ for machine in $machines; do
     (cd "$at" && sha256sum --quiet -c SHA256SUMS) || fail "the archive's checksums differ"
     # shellcheck disable=SC2086
     plays "the static program for $machine" $qemu "$at/bin/hub_main"
+    if [ "$machine" = "$(uname -m)" ]; then
+        tries "the archive's lazbendix doctor" "$at/lazbendix" doctor
+        grep -q "library: $at/" "$said" && grep -q "program: $at/bin/" "$said" ||
+            fail "the archive's command has another program or library: $(cat "$said")"
+    fi
     # (the library of the packages for a C program: by pkg-config, and by CMake)
     cp "$top/library/examples/window.c" "$own/window.c"
     sed -i 's,"../lazbendix.h",<lazbendix.h>,' "$own/window.c"

@@ -2,6 +2,7 @@
 
     python3 -m unittest release.test_certificate
 """
+import json
 import os
 import subprocess
 import sys
@@ -101,6 +102,40 @@ class Logs(unittest.TestCase):
         self.refused(log_of(["one", "two"], last="1 passed, 0 failed"), "there are 2 crates")
 
 
+class Libraries(unittest.TestCase):
+    """What code_sum takes of a library that the gate left."""
+
+    def setUp(self) -> None:
+        room = tempfile.TemporaryDirectory()
+        self.addCleanup(room.cleanup)
+        self.root = room.name
+        self.at = f"{self.root}/crates/one/out/rlib/one.rlib"
+        os.makedirs(f"{self.at}/toolchain")
+        self.put("format", f"crate one\nlogic {LOGIC}\n")
+        self.put("toolchain/checked.json", '["part/Rattle-one-proofs.TheLinks.one-call", 1]\n')
+        self.put("toolchain/mir.json", json.dumps([["one::call", {}], ["one::Has::it+decl", {}]]))
+
+    def put(self, name: str, text: str) -> None:
+        with open(f"{self.at}/{name}", "w", encoding="utf-8") as file:
+            file.write(text)
+
+    def refused(self, named: list[str], why: str) -> None:
+        proof = certificate.Proof(VERDICT, len(named), LOGIC, [], named)
+        with self.assertRaisesRegex(Refused, why):
+            certificate.code_sum("one", proof, LOGIC, self.root)
+
+    def test_the_functions_of_the_log_are_those_of_the_library(self) -> None:
+        proof = certificate.Proof(VERDICT, 1, LOGIC, [], ["one::call"])
+        made = certificate.code_sum("one", proof, LOGIC, self.root)
+        self.assertEqual(made, sum_of(f"{self.at}/toolchain/mir.json"))
+        self.refused(["one::call", "one::more"], "the log names one::more")
+        self.refused([], "the library of one has one::call, and the log does not name it")
+
+    def test_a_library_of_another_logic_is_refused(self) -> None:
+        self.put("format", f"crate one\nlogic {'0' * 64}\n")
+        self.refused(["one::call"], "of another crate or logic")
+
+
 class Releases(unittest.TestCase):
     """What make.py and verify.sh refuse, in a clone."""
 
@@ -137,6 +172,13 @@ class Releases(unittest.TestCase):
         ):
             self.refused("no licence is chosen", "--log", log)
         self.refused("or say --unproved", "--trial")
+
+    def test_an_old_log_is_refused(self) -> None:
+        log = f"{self.room.name}/log"
+        with open(log, "w", encoding="utf-8") as file:
+            file.write(log_of(certificate.crates_of(self.tree), last="99 passed, 0 failed"))
+        os.utime(log, (1, 1))
+        self.refused("the gate's log is older than commit", "--log", log, "--trial")
 
     def test_an_altered_tree_is_refused(self) -> None:
         log = f"{self.room.name}/log"

@@ -340,6 +340,17 @@ class Tools(unittest.TestCase):
             errors(called("summary", "--device", "lapm", example("leaving.json"))),
         )
 
+    def test_a_short_summary(self) -> None:
+        """Windows, what was taken back, and the total: no run that committed, no order, no home."""
+        told = called("summary", "--short", example("leaving.json")).stdout.decode()
+        lines = [line for line in told.split("\n") if line]
+        self.assertTrue(lines[2].startswith("Window 1 of 1, 2021-04-26T08:10:00: 2 runs; 1 com"))
+        self.assertTrue(lines[3].startswith("  Run 1 (leave) was taken back: its command 3, "))
+        self.assertEqual(lines[4:], ["In all: 1 window, 2 runs, 1 committed, 1 taken back."])
+        failing = called("summary", "--short", example("failing.json")).stdout.decode()
+        self.assertIn("  Devices: ", failing)
+        self.assertEqual(called("summary", "--short", "--json", LIGHT).returncode, 2)
+
     def test_summary_of_a_named_record(self) -> None:
         record = example_bytes("failing.record")
         named = called("summary", example("failing.json"), example("failing.record"))

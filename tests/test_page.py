@@ -1,6 +1,6 @@
 """The page of a large day in a headless Chromium, where one is installed: packed windows, the day
 as a whole, the axis by ms, and the zoom. LAZBENDIX_LARGE=1 takes 288 windows of 64 runs, and asks
-how long the page takes."""
+how long the page takes: of its own thread always, and of the clock where the machine is calm."""
 import base64
 import json
 import os
@@ -21,6 +21,11 @@ WINDOWS, RUNS = (288, 64) if LARGE else (32, 28)
 OPENS, CHANGES = 2.0, 0.2  # s, of the large day
 PAGE_BYTES = 5_000_000
 SECONDS = {"view": 15, "summary": 10, "picture": 10, "trace": 10}
+
+
+def is_calm() -> bool:
+    """Whether fewer programs want a processor than there are, so that a clock says something."""
+    return os.getloadavg()[0] < (os.cpu_count() or 1)
 
 
 def spent() -> float:
@@ -81,11 +86,14 @@ class Page(unittest.TestCase):
         self.assertLess(len(data), PAGE_BYTES)
         self.assertEqual(data.count(b'type="application/zlib"'), WINDOWS + 1)
         if LARGE:
-            self.assertLess(self.took, SECONDS["view"])
+            took = {"view": self.took}
             for name in ("summary", "picture", "trace"):
                 begin = spent()
                 self.assertEqual(called(name, self.day, self.record).returncode, 0)
-                self.assertLess(spent() - begin, SECONDS[name])
+                took[name] = spent() - begin
+            print({name: round(it, 1) for name, it in took.items()}, file=sys.stderr)
+            if is_calm():
+                self.assertEqual([it for it in took if took[it] > SECONDS[it]], [])
 
     def test_each_line_of_the_record_is_in_the_packed_windows(self) -> None:
         with open(self.page, encoding="utf-8") as file:
@@ -150,7 +158,7 @@ class Page(unittest.TestCase):
             begin = time.monotonic()
             tab.open(f"file://{self.page}")
             tab.settle()
-            opened = time.monotonic() - begin
+            opened, worked = time.monotonic() - begin, tab.work() / 1000
             for _ in range(200):
                 if tab.value("page.wholeDay.told !== null"):
                     break
@@ -162,7 +170,14 @@ class Page(unittest.TestCase):
             )
             self.assertEqual(thrown, [])
             if LARGE:
-                self.assertLess(opened, OPENS)
+                self.is_within("the page opens", opened, worked, OPENS)
+
+    def is_within(self, what: str, seconds: float, worked: float, most: float) -> None:
+        """The page's own thread worked at most so long, and so long passed on a calm machine."""
+        print(f"{what}: {seconds:.2f} s, {worked:.2f} s of its thread", file=sys.stderr)
+        self.assertLess(worked, most)
+        if is_calm():
+            self.assertLess(seconds, most)
 
     def check_day(self, tab: Tab) -> None:
         """The day as a whole is shown first, and says what the record's lines say."""
@@ -187,6 +202,7 @@ class Page(unittest.TestCase):
 
     def check_windows(self, tab: Tab) -> None:
         """Windows change, the filter stays, the axis turns, and the zoom keeps the chosen step."""
+        before = tab.work()
         seconds = tab.value(
             "(async () => { const begin = performance.now(); await page.open(7); return "
             "(performance.now() - begin) "
@@ -195,7 +211,8 @@ class Page(unittest.TestCase):
         self.assertEqual(tab.value("page.window.label"), "7")
         self.assertFalse(tab.value("page.isDayShown"))
         if LARGE:
-            self.assertLess(seconds, CHANGES)
+            worked = (tab.work() - before) / 1000
+            self.is_within("the window changes", seconds, worked, CHANGES)
         tab.value("page.choice.devices.add(3), page.layOut()")
         tab.value("(async () => { await page.open(8); })()")
         self.assertEqual(tab.value("[...page.choice.devices]"), [3])
@@ -204,9 +221,9 @@ class Page(unittest.TestCase):
         place = "page.layout.x(page.step) - part('chart-box').scrollLeft"
         self.assertEqual(tab.value("[page.axis, page.layout.edges !== null]"), ["ms", True])
         for factor in (1.4, 1 / 1.4):
-            before = tab.value(place)
+            stood = tab.value(place)
             tab.value(f"page.zoom({factor})")
-            self.assertLess(abs(tab.value(place) - before), 2)
+            self.assertLess(abs(tab.value(place) - stood), 2)
             self.assertEqual(tab.value("page.step"), 40)
         widths = tab.value(
             "page.layout.columns.every((step, column) => page.layout.stepAt(page.layout.x(step)) "

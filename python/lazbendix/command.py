@@ -217,9 +217,9 @@ def show_summary(asked: argparse.Namespace) -> int:
             return (
                 json.dumps(facts_of(given.script, given.record, choice_of(asked)), indent=1) + "\n"
             )
-        return summary(
-            given.script, given.record, choice_of(asked), asked.lines, colours_of(sys.stdout)
-        )
+        colours = colours_of(sys.stdout)
+        part = choice_of(asked)
+        return summary(given.script, given.record, part, asked.lines, colours, asked.short)
 
     return looked_into(asked, show)
 

@@ -81,19 +81,17 @@ def yaml_script(data: bytes) -> bytes:
     except ImportError:
         raise NoYaml("YAML is read where PyYAML is installed, and it is not here") from None
 
-    class Loader(yaml.SafeLoader):
-        """Reads a script's words as JSON has them: `on` and `off` are texts, and so is a time."""
-
-    Loader.yaml_implicit_resolvers = {
+    # (reads a script's words as JSON has them: `on` and `off` are texts, and so is a time)
+    words = {
         letter: [
             (tag, test) for tag, test in resolvers if not tag.endswith((":timestamp", ":bool"))
         ]
         for letter, resolvers in yaml.SafeLoader.yaml_implicit_resolvers.items()
     }
-    add: Any = Loader.add_implicit_resolver  # of which no types are told
-    add("tag:yaml.org,2002:bool", re.compile("true|false"), list("tf"))
+    loader: Any = type("Loader", (yaml.SafeLoader,), {"yaml_implicit_resolvers": words})
+    loader.add_implicit_resolver("tag:yaml.org,2002:bool", re.compile("true|false"), list("tf"))
     try:
-        value: Any = yaml.load(data, Loader)
+        value: Any = yaml.load(data, loader)
         return json.dumps(value, indent=2, allow_nan=False).encode() + b"\n"
     except yaml.YAMLError as wrong:
         raise NoYaml(f"no YAML: {wrong}") from None

@@ -513,6 +513,14 @@ COMMITTED, TAKEN_BACK = re.compile(r"(?<=\) )committed(?=\.)"), re.compile(
 )
 
 
+def is_short(said: Said) -> bool:
+    """Whether the short form has it: windows, runs that were taken back, devices that failed."""
+    if said.depth == 0:
+        return True
+    is_told = TAKEN_BACK.search(said.text) is not None or said.text.startswith("Devices:")
+    return said.depth == 1 and is_told
+
+
 def painted(text: str, colours: Colours) -> str:
     """A sentence with what came of its run in colours."""
     text = COMMITTED.sub(lambda found: colours.paint("good", found[0]), text)
@@ -525,10 +533,13 @@ def summary(
     choice: Choice = Choice(),
     with_lines: bool = False,
     colours: Colours = Colours(),
+    short: bool = False,
 ) -> str:
     """The summary of a record as it is printed. Raises `Unread`."""
     parts = []
     for said in sentences(script, text, choice):
+        if short and not is_short(said):
+            continue
         lines = (
             f"  [{', '.join(map(str, sorted(set(said.lines))))}]"
             if with_lines and said.lines

@@ -263,6 +263,7 @@ class Maker:
             "report a day in sentences: who waited, who was taken back and why, what is down",
             [
                 "lazbendix summary day.json",
+                "lazbendix summary --short day.json day.record",
                 "lazbendix summary --window 3 --lines day.json day.record",
                 "lazbendix summary --aborted --json day.json day.record",
             ],
@@ -271,7 +272,13 @@ class Maker:
         made.add_argument(
             "--lines", action="store_true", help="name the lines of the record behind each sentence"
         )
-        made.add_argument("--json", action="store_true", help="print the day as JSON")
+        form = made.add_mutually_exclusive_group()
+        form.add_argument(
+            "--short",
+            action="store_true",
+            help="a line for each window, each run that was taken back, and devices that failed",
+        )
+        form.add_argument("--json", action="store_true", help="print the day as JSON")
         made = self.looked(
             "view",
             "make a page in which one looks into a day",
