@@ -1,6 +1,6 @@
 use Rattle.hub_commands.proofs.ToldWindows.{lines_of_last}
 use Rattle.hub_commands.proofs.days.last_lines.Goals as goal
-use Rattle.std.proofs.Common.{arith}
+use Rattle.std.proofs.Common.{arith, ◌-◌}
 
 pub returns : goal.returns
 returns c =
