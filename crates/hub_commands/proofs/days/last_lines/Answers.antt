@@ -5,6 +5,6 @@ use Rattle.std.proofs.Common.{arith, ◌-◌}
 pub returns : goal.returns
 returns c =
     let some = c.requires.some in
-    let len = c.len.ensures in
-    lines_of_last c.args.script.now c.args.before (c.len.result - 1) c.args.closed.now c.args.windows.now.items c.args.options.mode c.args.options.trace c.window_text.result
+    let len = c.len-number.ensures in
+    lines_of_last c.args.script.now c.args.before (c.len-number.result - 1) c.args.closed.now c.args.windows.now.items c.args.options.mode c.args.options.trace c.window_text.result
     c.requires.last (omega (arith, some, len)) c.window_text.ensures
