@@ -1,0 +1,6 @@
+mod Slots
+mod Reading
+mod Scanning
+mod Groups
+mod Shutting
+mod Keeping

@@ -1,0 +1,4 @@
+pub mod Heads
+pub mod KeptCalls
+pub mod LogFiles
+pub mod CallLogs
