@@ -2,6 +2,8 @@
 #![tactic(auto)]
 
 #[cfg(test)]
+mod call_logs;
+#[cfg(test)]
 mod chains;
 #[cfg(test)]
 mod clocks;
