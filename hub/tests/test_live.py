@@ -2,6 +2,7 @@
 import asyncio
 import time
 import unittest
+from unittest import mock
 
 from lazbendix import Go, Task, Worked
 
@@ -72,10 +73,14 @@ class Live(unittest.IsolatedAsyncioTestCase):
             self.assertEqual(told.outcome, "committed")
 
     async def test_a_limit_does_not_pass_while_the_hub_sleeps(self) -> None:
-        async with Stage(QUICK) as stage:
+        with mock.patch("lazbendix_hub.live.HEARING", 3.0):  # the machine may be a busy one
+            await self.sleeps()
+
+    async def sleeps(self) -> None:
+        async with Stage(HOME.replace("limit: 5s", "limit: 3s")) as stage:
             stage.begin("evening")
             await until(lambda: stage.live.out)
-            time.sleep(1.2)  # as where the machine is put to sleep, or has much else to do
+            time.sleep(4)  # as where the machine is put to sleep, or has much else to do
             await stage.quiet()
             self.assertEqual([each.outcome for each in stage.ends.all], ["committed"])
             self.assertEqual(stage.live.counts["dead"], 0)
