@@ -1,4 +1,4 @@
-"""Forges logs out of a true one, and has each refused: what release.make takes is the true one alone.
+"""Forges logs out of a true one, and has each refused: release.make takes the true one alone.
 
     python3 -m release.forged LOG
 

@@ -188,6 +188,15 @@ class Releases(unittest.TestCase):
             file.write("99 passed, 0 failed\n")
         self.refused("files are changed or new", "--log", log, "--trial")
 
+    def test_an_archive_has_no_sources(self) -> None:
+        path = f"{self.room.name}/certificate"
+        with open(path, "w", encoding="utf-8") as file:
+            file.write("lazbendix-certificate 1\ncommit 12ab\nstate proved\n")
+        words = [f"{HERE}/verify.sh", path, self.room.name]
+        ran = subprocess.run(words, capture_output=True, text=True)
+        self.assertEqual(ran.returncode, 1)
+        self.assertIn("has no sources: check out commit 12ab", ran.stderr)
+
     def test_altered_certificates_are_refused(self) -> None:
         path = f"{self.room.name}/certificate"
         crates = certificate.crates_of(self.tree)

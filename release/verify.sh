@@ -34,6 +34,12 @@ word() { sed -n "s/^$1 //p" "$certificate" | head -n 1; }
 [ "$(head -n 1 "$certificate")" = 'lazbendix-certificate 1' ] || { differs "$certificate is no certificate"; exit 1; }
 state=$(word state)
 
+# An archive has the certificate and this program, and no sources.
+ls -d "$tree"/crates/*/src >/dev/null 2>&1 || {
+    differs "$tree has no sources: check out commit $(word commit) of the repository, and name its folder"
+    exit 1
+}
+
 # The crates, and no others.
 sed -n 's/^crate \([^ ]*\) .*/\1/p' "$certificate" | sort >"${TMPDIR:-/tmp}/verify-$$"
 sed 's/#.*//' "$tree/crates.txt" | sed -n 's/^\([A-Za-z0-9_]*\)[^:]*:.*/\1/p' | sort |
