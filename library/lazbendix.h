@@ -64,7 +64,7 @@ enum {
     LAZBENDIX_IN_WINDOW = 6,   /* a window is open */
     LAZBENDIX_NO_WINDOW = 7,   /* no window is open, or none was begun that is still to be opened */
     LAZBENDIX_ABSENT = 8,      /* there is no such window, routine, device, entry or final item */
-    LAZBENDIX_TOO_MANY = 9,    /* more runs, rounds of probes, or windows of a home than there may be */
+    LAZBENDIX_TOO_MANY = 9,    /* more runs, rounds of probes, or windows of a home than there may be; more bytes than the room has */
     LAZBENDIX_NOT_OUT = 10,    /* the device is not out, or is out with another ticket: an answer that is late, or twice */
     LAZBENDIX_WRONG = 11,      /* no answer to the task */
     LAZBENDIX_DIFFERS = 12,    /* a sense found another value than that at which the device stands for the hub */
@@ -74,7 +74,7 @@ enum {
     LAZBENDIX_BAD_TIME = 16,   /* no time, or one that is not later than that of the window before */
     LAZBENDIX_BAD_FOLLOW = 17, /* the run that is to be followed is none of those before */
     LAZBENDIX_NO_VALUE = 18,   /* the device has no such value */
-    LAZBENDIX_NO_CALL = 19     /* a call of the log is refused */
+    LAZBENDIX_NO_CALL = 19     /* a call of the log is refused; or no call has these numbers */
 };
 
 /* How the runs of a window see each other, and how a run gets its place. The last two schedulers go with the eventual
@@ -190,6 +190,24 @@ typedef struct lazbendix_stand_told { uint32_t value, up; } lazbendix_stand_told
 
 typedef struct lazbendix_counts_told { uint64_t devices, routines, windows; } lazbendix_counts_told;
 
+/* A call that changed the home, for a log. A number that its kind does not speak of is 0. */
+enum {
+    LAZBENDIX_CALL_BEGIN_WINDOW = 1, /* value: rounds of probes; first: the time, 20261201090500 for 2026-12-01T09:05:00 */
+    LAZBENDIX_CALL_ADD_RUN,          /* value: the routine; of a run that follows another sort 1, first: that run */
+    LAZBENDIX_CALL_WINDOW,           /* value: its number */
+    LAZBENDIX_CALL_TAKE,             /* value: the run; second: the moment */
+    LAZBENDIX_CALL_GIVE,             /* sort: WORKED, FOUND_VALUE with value, or DEAD; device; first: the ticket; second: the moment */
+    LAZBENDIX_CALL_PROBE,            /* device */
+    LAZBENDIX_CALL_CLOSE_WINDOW,
+    LAZBENDIX_CALL_RESTAND,          /* device, value */
+    LAZBENDIX_CALL_LOSE              /* device */
+};
+enum { LAZBENDIX_CALL_SIZE = 24 };
+typedef struct lazbendix_call {
+    uint64_t first, second;
+    uint32_t kind, sort, device, value;
+} lazbendix_call;
+
 /* Opening and ending. */
 
 /* Reads the script and opens its home on a closed handle: every device up at its start, no window open. Its windows are
@@ -203,6 +221,9 @@ int32_t lazbendix_open(lazbendix_hub *h, const uint8_t *script, size_t len, uint
    or scheduler, or it lacks calls. OPEN, MODE, REFUSED (the fault tells why), NO_CALL, NO_MEMORY. */
 int32_t lazbendix_reopen(lazbendix_hub *h, const uint8_t *script, size_t len, const uint8_t *log, size_t log_len, uint32_t model,
                          uint32_t scheduler, lazbendix_fault *fault, uint64_t *good);
+/* Writes the LAZBENDIX_CALL_SIZE bytes of the call into the front of the room, as lazbendix_reopen reads them. Asks for no
+   handle and takes no memory. TOO_MANY where the room is shorter, NO_CALL where no call has these numbers. */
+int32_t lazbendix_log(const lazbendix_call *call, uint8_t *room, size_t room_len);
 /* Closes the handle and frees all behind it, whatever is open or out. CLOSED. */
 int32_t lazbendix_end(lazbendix_hub *h);
 /* Answers the version of the library, as LAZBENDIX_VERSION has it, and no status. */

@@ -15,7 +15,8 @@ TOP = os.path.join(os.path.dirname(os.path.abspath(__file__)), "..", "..")
 Arguments = list[str]
 NUMBERS = {"u32": "u32", "u64": "u64", "usize": "size"}
 STRUCTURES = {"ToldFault": "fault", "ToldTurn": "turn", "ToldMade": "made", "ToldEntry": "entry", "ToldLeft": "left",
-              "ToldItem": "item", "ToldStand": "stand_told", "ToldCounts": "counts_told"}
+              "ToldItem": "item", "ToldStand": "stand_told", "ToldCounts": "counts_told", "ToldCall": "call"}
+RATTLE_OWN = "Global", "&mut Handle"  # the allocator takes no bytes; the handle is that of all calls but a few
 C_NUMBERS = {"uint32_t": "u32", "uint64_t": "u64", "size_t": "size", "uint8_t": "u8", "lazbendix_entry": "entry", "lazbendix_made": "made"}
 
 
@@ -33,8 +34,9 @@ def plain(text: str) -> str:
 def rattle_argument(kind: str) -> Arguments:
     if kind in ("&[u8]", "&mut [u8]"):
         return ["*u8", "size"]
-    if kind.startswith("&mut "):
-        return ["*" + (NUMBERS.get(kind[5:]) or STRUCTURES[kind[5:]])]
+    if kind.startswith("&"):
+        pointed = kind.removeprefix("&").removeprefix("mut ")
+        return ["*" + (NUMBERS.get(pointed) or STRUCTURES[pointed])]
     return [NUMBERS[kind]]
 
 
@@ -53,7 +55,7 @@ def of_rattle() -> tuple[dict[str, Arguments], dict[str, Arguments]]:
     text = plain("".join(read(path) for path in sorted(glob.glob("crates/lazbendix_c/src/*.rt", root_dir=TOP))))
     exports = {}
     for name, words in re.findall(r'pub extern "C" fn lazbendix_(\w+)\((.*?)\)\s*->\s*i32', text, re.S):
-        exports[name] = [it for kind in arguments_of(words)[2:] for it in rattle_argument(kind)]
+        exports[name] = [it for kind in arguments_of(words) if kind not in RATTLE_OWN for it in rattle_argument(kind)]
     structures = {}
     for name, members in re.findall(r"pub struct (Told\w+) \{(.*?)\}", text, re.S):
         kinds = [("entries" if member in "abc" else member, kind) for member, kind in members_of(members)]
@@ -71,7 +73,7 @@ def of_c() -> tuple[dict[str, Arguments], dict[str, Arguments]]:
     text = plain(read("library", "lazbendix.h"))
     exports = {}
     for name, words in re.findall(r"int32_t lazbendix_(\w+)\((.*?)\);", text, re.S):
-        exports[name] = [c_argument(it) for it in words.split(",")[1:]]
+        exports[name] = [it for it in map(c_argument, words.split(",")) if it not in ("*hub", "")]
     structures = {}
     for name, members in re.findall(r"typedef struct lazbendix_(\w+) \{(.*?)\}", text, re.S):
         if name == "hub":
@@ -92,7 +94,7 @@ def of_rust() -> tuple[dict[str, Arguments], dict[str, Arguments]]:
         exports[name] = [it for kind in arguments_of(words) for it in rattle_argument(kind)]
     pointers = {"*mut": "*", "*const": "*"}
     for name, words in re.findall(r"fn lazbendix_(\w+)\((.*?)\)\s*->\s*i32;", text, re.S):
-        told = [re.sub(r"\*(?:mut|const) ", lambda it: pointers[it[0].strip()], kind) for kind in arguments_of(words)[1:]]
+        told = [re.sub(r"\*(?:mut|const) ", lambda it: pointers[it[0].strip()], kind) for kind in arguments_of(words) if kind != "*mut Handle"]
         exports[name] = [re.sub(r"\w+", lambda it: NUMBERS.get(it[0]) or STRUCTURES.get(it[0], it[0]), kind) for kind in told]
     structures = {}
     for name, members in re.findall(r"struct (Told\w+) \{(.*?)\}", text, re.S):

@@ -67,13 +67,21 @@ class ToldCounts(ctypes.Structure):
     _fields_ = [("devices", c_uint64), ("routines", c_uint64), ("windows", c_uint64)]
 
 
+class ToldCall(ctypes.Structure):
+    _fields_ = [("first", c_uint64), ("second", c_uint64)] + [
+        (name, c_uint32) for name in ("kind", "sort", "device", "value")
+    ]
+
+
 BYTES = [c_char_p, c_size_t]
 ROOM = [POINTER(c_uint8), c_size_t]
 
-# The arguments behind the handle; the version alone is asked for without one.
+# The arguments after the handle, and the calls that have none.
+HANDLELESS = ("log", "version")
 EXPORTS: dict[str, list[Any]] = {
     "open": [*BYTES, c_uint32, c_uint32, POINTER(ToldFault)],
     "reopen": [*BYTES, *BYTES, c_uint32, c_uint32, POINTER(ToldFault), POINTER(c_uint64)],
+    "log": [POINTER(ToldCall), *ROOM],
     "end": [],
     "window": [c_uint32],
     "take": [c_uint32, c_uint64, POINTER(ToldTurn)],
@@ -120,7 +128,7 @@ def load() -> ctypes.CDLL:
     library = ctypes.CDLL(found)
     for name, arguments in EXPORTS.items():
         export = getattr(library, f"lazbendix_{name}")
-        handle: list[Any] = [] if name == "version" else [POINTER(Handle)]
+        handle: list[Any] = [] if name in HANDLELESS else [POINTER(Handle)]
         export.argtypes, export.restype = [*handle, *arguments], c_int32
     return library
 

@@ -1,3 +1,4 @@
 mod Crossing
 mod Grasps
+mod LogBytes
 mod Prelude

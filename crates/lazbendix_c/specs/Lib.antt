@@ -1,5 +1,6 @@
 pub mod Calls
 pub mod Faults
+pub mod Logs
 pub mod Numbers
 pub mod Owned
 pub mod Queries

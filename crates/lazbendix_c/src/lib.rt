@@ -4,6 +4,7 @@
 
 mod draft_calls;
 mod handles;
+mod log_calls;
 mod numbers;
 mod open_calls;
 mod query_calls;
@@ -21,6 +22,7 @@ pub use draft_calls::{
     lazbendix_add_run, lazbendix_begin_window, lazbendix_lose, lazbendix_restand,
 };
 pub use handles::{Handle, HomeBlock};
+pub use log_calls::{ToldCall, lazbendix_log};
 pub use open_calls::{lazbendix_end, lazbendix_open};
 pub use query_calls::{
     lazbendix_blocked_runs, lazbendix_final_item, lazbendix_out, lazbendix_sealed,

@@ -112,6 +112,19 @@ pub(crate) struct ToldCounts {
     pub(crate) windows: u64,
 }
 
+/// The numbers of a call for a log.
+#[cfg(test)]
+#[repr(C)]
+#[derive(Clone, Copy, Default)]
+pub(crate) struct ToldCall {
+    pub(crate) first: u64,
+    pub(crate) second: u64,
+    pub(crate) kind: u32,
+    pub(crate) sort: u32,
+    pub(crate) device: u32,
+    pub(crate) value: u32,
+}
+
 // As large as in C.
 const _: () = assert!(size_of::<Handle>() == 16 && size_of::<ToldFault>() == 40 && size_of::<ToldEntry>() == 56);
 const _: () = assert!(size_of::<ToldMade>() == 176 && size_of::<ToldTurn>() == 272 && size_of::<ToldLeft>() == 8);
@@ -187,6 +200,18 @@ extern "C" {
     fn lazbendix_value_name(h: *mut Handle, device: u32, value: u32, room: *mut u8, room_len: usize, len: *mut usize)
         -> i32;
     fn lazbendix_version() -> i32;
+}
+
+#[cfg(test)]
+extern "C" {
+    fn lazbendix_log(call: *const ToldCall, room: *mut u8, room_len: usize) -> i32;
+}
+
+/// Writes the bytes of a call; the package makes its own, and its tests compare the two.
+#[cfg(test)]
+pub(crate) fn log(call: &ToldCall, room: &mut [u8]) -> i32 {
+    // SAFETY: as this module says.
+    unsafe { lazbendix_log(call, room.as_mut_ptr(), room.len()) }
 }
 
 /// The number of the version of the library.
