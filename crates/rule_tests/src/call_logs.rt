@@ -105,7 +105,7 @@ fn both_calls(alloc: Global, disk: MemoryDisk) -> (MemoryDisk, u64) {
             drop(calls);
             match one_call(alloc, log, FIRST, 1) {
                 Ok((log, first)) => match one_call(alloc, log, SECOND, 2) {
-                    Ok((log, second)) => (log.into_disk(), first + second),
+                    Ok((log, second)) => (log.into_disk(), first.saturating_add(second)),
                     Err(disk) => (disk, first),
                 },
                 Err(disk) => (disk, 0),
