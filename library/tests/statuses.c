@@ -14,6 +14,7 @@
 _Static_assert(sizeof(lazbendix_hub) == 16 && sizeof(lazbendix_fault) == 40 && sizeof(lazbendix_entry) == 56, "sizes");
 _Static_assert(sizeof(lazbendix_made) == 176 && sizeof(lazbendix_turn) == 272 && sizeof(lazbendix_left) == 8, "sizes");
 _Static_assert(sizeof(lazbendix_stand_told) == 8 && sizeof(lazbendix_counts_told) == 24 && sizeof(lazbendix_item) == 16, "sizes");
+_Static_assert(sizeof(lazbendix_call) == 32, "sizes");
 
 static lazbendix_hub hub = LAZBENDIX_HUB_CLOSED;
 

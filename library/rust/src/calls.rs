@@ -129,6 +129,8 @@ pub(crate) struct ToldCall {
 const _: () = assert!(size_of::<Handle>() == 16 && size_of::<ToldFault>() == 40 && size_of::<ToldEntry>() == 56);
 const _: () = assert!(size_of::<ToldMade>() == 176 && size_of::<ToldTurn>() == 272 && size_of::<ToldLeft>() == 8);
 const _: () = assert!(size_of::<ToldStand>() == 8 && size_of::<ToldCounts>() == 24 && size_of::<ToldItem>() == 16);
+#[cfg(test)]
+const _: () = assert!(size_of::<ToldCall>() == 32);
 
 const fn size_of<T>() -> usize {
     std::mem::size_of::<T>()

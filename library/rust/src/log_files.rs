@@ -361,3 +361,33 @@ fn pushed(data: &mut Vec<u8>, before: u32, record: &Record) -> u32 {
     data.extend(check.to_le_bytes());
     check
 }
+
+#[cfg(test)]
+mod tests {
+    use super::*;
+    use crate::calls::ToldCall;
+
+    fn same(kind: u8, sort: u8, device: u16, value: u32, first: u64, second: u64) {
+        let record = Record { call: Call { kind, sort, device, value, first, second }, answers: 0 };
+        let told = ToldCall { first, second, kind: kind.into(), sort: sort.into(), device: device.into(), value };
+        let mut room = [0; CALL];
+        assert_eq!(calls::log(&told, &mut room), 0);
+        assert_eq!(room, record.body()[..CALL]);
+    }
+
+    #[test]
+    fn a_call_has_the_bytes_that_the_library_makes() {
+        same(BEGIN_WINDOW, 0, 0, 3, 20261201090500, 0);
+        same(ADD_RUN, 0, 0, u32::MAX, 0, 0);
+        same(ADD_RUN, 1, 0, 258, u64::from(u32::MAX), 0);
+        same(WINDOW, 0, 0, 287, 0, 0);
+        same(TAKE, 0, 0, 64, 0, u64::MAX);
+        same(GIVE, 1, 3, 0, 7, 1750);
+        same(GIVE, 2, u16::MAX, 9, u64::MAX, 256);
+        same(GIVE, 3, 1, 0, 8, 1);
+        same(PROBE, 0, 256, 0, 0, 0);
+        same(CLOSE_WINDOW, 0, 0, 0, 0, 0);
+        same(RESTAND, 0, 2, 1, 0, 0);
+        same(LOSE, 0, 513, 0, 0, 0);
+    }
+}
