@@ -99,7 +99,6 @@ fn two_meet(rt: HostRuntime) {
         &rt, "memory",
     );
     assert_eq!(rt; finish.status, 0);
-    drop(finish);
     assert!(rt; has_line(sink.held(), b"run 1 a committed . ."));
     assert!(rt; has_line(sink.held(), b"run 2 b committed . ."));
     drop(sink);
@@ -124,7 +123,6 @@ fn a_lease_is_revoked_while_nobody_else_steps(rt: HostRuntime) {
             &rt, "memory",
         );
         assert_eq!(rt; finish.status, 0);
-        drop(finish);
         assert!(rt; has_line(sink.held(), b"run 3 bake committed . ."));
         least = least.min(delay(sink.held()).unwrap_or(u64::MAX));
         drop(sink);
