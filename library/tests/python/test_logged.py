@@ -11,7 +11,7 @@ sys.path[:0] = [os.path.join(HERE, "..", "..", "..", "python")]
 from lazbendix import Status, logged
 from lazbendix._calls import LIBRARY, ToldCall
 from lazbendix.logged_calls import LAYOUT
-from lazbendix.told import Dead, Found, Worked
+from lazbendix.told import Answer, Dead, Found, Worked
 
 CALLS = 10_000
 
@@ -20,26 +20,26 @@ def drawn(draw: random.Random) -> bytes:
     """The bytes that the package makes of a drawn call."""
 
     def number(bits: int) -> int:
-        return draw.choice((0, 1, 2**bits - 1, draw.randrange(2**bits)))
+        numbers = [0, 1, (1 << bits) - 1, draw.randrange(1 << bits)]
+        return draw.choice(numbers)
 
     device, value = number(16), number(32)
     year, month, day = draw.randrange(10_000), draw.randrange(1, 13), draw.randrange(1, 32)
     hour, minute, second = draw.randrange(24), draw.randrange(60), draw.randrange(60)
     at = f"{year:04}-{month:02}-{day:02}T{hour:02}:{minute:02}:{second:02}"
-    answer = draw.choice((Worked(), Found(value), Dead()))
-    return draw.choice(
-        (
-            lambda: logged.began(at, value),
-            lambda: logged.added(value, number(32)),
-            lambda: logged.opened(value),
-            lambda: logged.took(value, number(64)),
-            lambda: logged.gave(device, number(64), answer, number(64)),
-            lambda: logged.probed(device),
-            logged.closed,
-            lambda: logged.restood(device, value),
-            lambda: logged.lost(device),
-        )
-    )()
+    answers: list[Answer] = [Worked(), Found(value), Dead()]
+    calls = [
+        logged.began(at, value),
+        logged.added(value, number(32)),
+        logged.opened(value),
+        logged.took(value, number(64)),
+        logged.gave(device, number(64), draw.choice(answers), number(64)),
+        logged.probed(device),
+        logged.closed(),
+        logged.restood(device, value),
+        logged.lost(device),
+    ]
+    return draw.choice(calls)
 
 
 def asked(numbers: tuple[int, ...]) -> tuple[Status, bytes]:
