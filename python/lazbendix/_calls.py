@@ -8,6 +8,7 @@ HERE = os.path.dirname(os.path.abspath(__file__))
 PLACES = [
     os.path.join(HERE, "liblazbendix.so"),
     os.path.join(HERE, "..", "..", "library", "out", "liblazbendix.so"),
+    os.path.join(HERE, "..", "..", "lib", "liblazbendix.so"),  # of an unpacked archive
 ]
 
 

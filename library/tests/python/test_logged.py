@@ -1,4 +1,4 @@
-"""The package makes the bytes of drawn calls as the library does, and the library takes no other numbers."""
+"""The package makes the bytes of drawn calls as the library does, which takes no other numbers."""
 import os
 import random
 import sys
