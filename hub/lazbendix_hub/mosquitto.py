@@ -31,8 +31,9 @@ class Mosquitto:
         found = find_mosquitto()
         if found is None:
             raise FileNotFoundError("there is no mosquitto: apt install mosquitto")
+        # (in a session of its own: Ctrl-C reaches the group, and the hub needs it to its end)
         self.process = subprocess.Popen([found, "-c", self.config], stdout=subprocess.DEVNULL,
-                                        stderr=subprocess.DEVNULL)
+                                        stderr=subprocess.DEVNULL, start_new_session=True)
         for _ in range(200):
             try:
                 socket.create_connection(("127.0.0.1", self.port), 1).close()
