@@ -5,9 +5,9 @@
    Each call has to answer one of its own statuses, and where that is not DONE it may not have written anything; on a
    closed handle it leaves the handle's bytes too. A call of a device has a ticket above that of each call of its home
    before it, no answer is taken but one to a call that is out, a device that is out is told with the turn of its call,
-   no item that is final changes, and a run that joins a window that is open is its last one. Where REFUSED is not 0, one
-   allocation of so many is refused in every second call. In the end no block of memory is left. Link it with
-   -Wl,--wrap=malloc,--wrap=realloc,--wrap=free. */
+   no item that is final changes, and a run that joins a window that is open is its last one. lazbendix_log has the status
+   and the bytes that docs/CALL-LOG.md has for its numbers. Where REFUSED is not 0, one allocation of so many is refused in
+   every second call. In the end no block of memory is left. Link it with -Wl,--wrap=malloc,--wrap=realloc,--wrap=free. */
 #include "../lazbendix.h"
 #include "home.h"
 #include <inttypes.h>
@@ -32,6 +32,7 @@ void __real_free(void *at);
 static uint64_t draws = 1, refused_one_of;
 static int is_tight; /* whether memory is refused in this call */
 static long blocks;
+static uint64_t asks; /* for memory */
 
 static uint64_t drawn(void) {
     uint64_t z = draws += 0x9e3779b97f4a7c15u;
@@ -45,12 +46,14 @@ static int is_refused(void) {
 }
 
 void *__wrap_malloc(size_t size) {
+    asks++;
     void *at = is_refused() ? NULL : __real_malloc(size);
     blocks += at != NULL;
     return at;
 }
 
 void *__wrap_realloc(void *at, size_t size) {
+    asks++;
     return is_refused() ? NULL : __real_realloc(at, size);
 }
 
@@ -169,6 +172,91 @@ static int32_t reopen(int h) {
     return status;
 }
 
+/* The rows of the table in docs/CALL-LOG.md, and which of their cells are not empty. */
+enum { DEVICE = 1, VALUE = 2, FIRST = 4, SECOND = 8 };
+static const struct {
+    uint32_t kind, sort;
+    unsigned cells;
+} rows[] = {
+    { 1, 0, VALUE | FIRST },
+    { 2, 0, VALUE },
+    { 2, 1, VALUE | FIRST },
+    { 3, 0, VALUE },
+    { 4, 0, VALUE | SECOND },
+    { 5, 1, DEVICE | FIRST | SECOND },
+    { 5, 2, DEVICE | VALUE | FIRST | SECOND },
+    { 5, 3, DEVICE | FIRST | SECOND },
+    { 6, 0, DEVICE },
+    { 7, 0, 0 },
+    { 8, 0, DEVICE | VALUE },
+    { 9, 0, DEVICE },
+};
+
+static int is_time(uint64_t at) {
+    uint64_t month = at / 100000000 % 100, day = at / 1000000 % 100;
+    int is_day = at / 10000000000 <= 9999 && 1 <= month && month <= 12 && 1 <= day && day <= 31;
+    return is_day && at / 10000 % 100 <= 23 && at / 100 % 100 <= 59 && at % 100 <= 59;
+}
+
+/* Whether a call has these numbers, by that page. */
+static int is_call(const lazbendix_call *it) {
+    for (size_t i = 0; i < sizeof rows / sizeof *rows; i++) {
+        if (rows[i].kind != it->kind || rows[i].sort != it->sort)
+            continue;
+        unsigned filled = (it->device ? DEVICE : 0) | (it->value ? VALUE : 0) | (it->first ? FIRST : 0) | (it->second ? SECOND : 0);
+        int is_first = it->kind == 1 ? is_time(it->first) : it->kind != 2 || it->first <= UINT32_MAX;
+        return !(filled & ~rows[i].cells) && it->device <= UINT16_MAX && is_first;
+    }
+    return 0;
+}
+
+/* A time, some of whose parts are 0 or one too large. */
+static uint64_t draw_time(void) {
+    static const unsigned bounds[] = { 14, 33, 25, 61, 61 };
+    uint64_t at = drawn() % 8 ? 2000 + drawn() % 100 : 9990 + drawn() % 20;
+    for (size_t i = 0; i < sizeof bounds / sizeof *bounds; i++)
+        at = 100 * at + (drawn() % 2 ? bounds[i] - 1 - (drawn() % 4 != 0) : drawn() % bounds[i]);
+    return at;
+}
+
+/* The numbers of a row, as a rule; one of them is any in every fourth call. */
+static lazbendix_call draw_call(void) {
+    size_t row = drawn() % (sizeof rows / sizeof *rows);
+    unsigned cells = rows[row].cells;
+    lazbendix_call it = { .kind = rows[row].kind, .sort = rows[row].sort };
+    it.device = cells & DEVICE ? small() : 0;
+    it.value = cells & VALUE ? (drawn() % 2 ? small() : (uint32_t)drawn()) : 0;
+    it.first = !(cells & FIRST) ? 0 : it.kind == 1 ? draw_time() : drawn() % 4 ? wide() : drawn();
+    it.second = cells & SECOND ? (drawn() % 2 ? wide() : drawn()) : 0;
+    switch (drawn() % 24) {
+    case 0: it.kind = small(); break;
+    case 1: it.sort = small(); break;
+    case 2: it.device = small(); break;
+    case 3: it.value = small(); break;
+    case 4: it.first = wide(); break;
+    case 5: it.second = wide(); break;
+    default: break;
+    }
+    return it;
+}
+
+/* The call that was drawn for a log, the length of its room, and how often memory was asked for. */
+static struct {
+    lazbendix_call call;
+    size_t len;
+    uint64_t asks;
+} logged;
+
+static int32_t log_call(void) {
+    logged.call = draw_call();
+    logged.len = drawn() % 2 ? LAZBENDIX_CALL_SIZE - 2 + drawn() % 4 : drawn() % (ROOM + 1);
+    lazbendix_call call = logged.call;
+    logged.asks = asks;
+    int32_t status = lazbendix_log(&call, out.room, logged.len);
+    logged.asks = asks - logged.asks;
+    return memcmp(&call, &logged.call, sizeof call) == 0 ? status : -2;
+}
+
 static int32_t begin_window(int h) {
     static unsigned seconds;
     char text[ROOM];
@@ -196,8 +284,8 @@ static int32_t give(int h) {
 }
 
 enum call {
-    OPEN, REOPEN, END, WINDOW, TAKE, GIVE, PROBE, BLOCKED, BLOCKED_RUNS, OUT, SEALED, FINAL_ITEM, QUIET, CLOSE_WINDOW, RECORD, HEAD,
-    ENTRY_TEXT, READ, ENTRY_COUNT, ENTRY_AT, BEGIN_WINDOW, ADD_RUN, RESTAND, LOSE, STAND, COUNTS, RUN_COUNT, DEVICE_NAME,
+    OPEN, REOPEN, LOG, END, WINDOW, TAKE, GIVE, PROBE, BLOCKED, BLOCKED_RUNS, OUT, SEALED, FINAL_ITEM, QUIET, CLOSE_WINDOW,
+    RECORD, HEAD, ENTRY_TEXT, READ, ENTRY_COUNT, ENTRY_AT, BEGIN_WINDOW, ADD_RUN, RESTAND, LOSE, STAND, COUNTS, RUN_COUNT, DEVICE_NAME,
     ROUTINE_NAME, VALUE_NAME, CALLS
 };
 
@@ -210,6 +298,7 @@ static const struct {
 } calls[CALLS] = {
     [OPEN] = { "open", BIT(OPEN) | BIT(MODE) | BIT(REFUSED) | BIT(NO_MEMORY) },
     [REOPEN] = { "reopen", BIT(OPEN) | BIT(MODE) | BIT(REFUSED) | BIT(NO_CALL) | BIT(NO_MEMORY) },
+    [LOG] = { "log", BIT(TOO_MANY) | BIT(NO_CALL) },
     [END] = { "end", 0 },
     [WINDOW] = { "window", BIT(IN_WINDOW) | BIT(ABSENT) | BIT(TOO_MANY) | BIT(NO_MEMORY) },
     [TAKE] = { "take", BIT(NO_WINDOW) },
@@ -246,6 +335,7 @@ static int32_t make(enum call call, int h) {
     switch (call) {
     case OPEN: return open_hub(h);
     case REOPEN: return reopen(h);
+    case LOG: return log_call();
     case END: return lazbendix_end(hub);
     case WINDOW: return lazbendix_window(hub, drawn() % 2 ? known[h].last_window : drawn() % 2 ? small() : (uint32_t)(drawn() % 40));
     case TAKE: return lazbendix_take(hub, small(), wide(), &out.turn);
@@ -303,9 +393,49 @@ static const char *note_run(int h) {
     return blocked ? "a run is blocked after a join" : NULL;
 }
 
+/* The numbers as bytes, low byte first. */
+static void bytes_of(const lazbendix_call *it, uint8_t *bytes) {
+    uint64_t words[] = { it->kind | it->sort << 8 | it->device << 16 | (uint64_t)it->value << 32, it->first, it->second };
+    for (size_t i = 0; i < LAZBENDIX_CALL_SIZE; i++)
+        bytes[i] = (uint8_t)(words[i / 8] >> i % 8 * 8);
+}
+
+/* Whether a home that is made again of these bytes reads a call in them, which it may refuse. */
+static int is_read(const uint8_t *bytes) {
+    lazbendix_hub hub = LAZBENDIX_HUB_CLOSED;
+    lazbendix_fault fault;
+    uint64_t good = 0;
+    int32_t status =
+        lazbendix_reopen(&hub, (const uint8_t *)HOME, strlen(HOME), bytes, LAZBENDIX_CALL_SIZE, 0, 0, &fault, &good);
+    lazbendix_end(&hub);
+    return status == LAZBENDIX_NO_CALL || (status == LAZBENDIX_DONE && good);
+}
+
+/* The header's statuses of a call for a log, which takes no memory and no handle, and the page's bytes. */
+static const char *note_log(int32_t status) {
+    const lazbendix_call *it = &logged.call;
+    uint8_t bytes[LAZBENDIX_CALL_SIZE];
+    int32_t wanted = logged.len < LAZBENDIX_CALL_SIZE ? LAZBENDIX_TOO_MANY : is_call(it) ? LAZBENDIX_DONE : LAZBENDIX_NO_CALL;
+    if (status != wanted)
+        return "the header has another status";
+    if (logged.asks)
+        return "it asks for memory";
+    bytes_of(it, bytes);
+    if (status == LAZBENDIX_DONE && memcmp(out.room, bytes, sizeof bytes) != 0)
+        return "the page has other bytes";
+    size_t written = status == LAZBENDIX_DONE ? sizeof bytes : 0;
+    if (memcmp(out.room + written, untouched.room + written, ROOM - written) != 0)
+        return "it has written more than the bytes";
+    if (it->kind <= UINT8_MAX && it->sort <= UINT8_MAX && it->device <= UINT16_MAX && is_read(bytes) != is_call(it))
+        return "its bytes are read otherwise";
+    return NULL;
+}
+
 /* Notes what the call did, and looks whether it may. */
 static const char *note(enum call call, int h, int32_t status) {
     uint32_t d = given.device;
+    if (call == LOG)
+        return note_log(status);
     if (status != LAZBENDIX_DONE)
         return NULL;
     switch (call) {
@@ -401,8 +531,8 @@ int main(int argc, char **argv) {
         printf("%ld blocks of memory are left\n", blocks);
         return 1;
     }
-    if (!joins) {
-        puts("no run joined");
+    if (!joins || !counts[LOG][LAZBENDIX_DONE] || !counts[LOG][LAZBENDIX_TOO_MANY] || !counts[LOG][LAZBENDIX_NO_CALL]) {
+        puts("no run joined, or a status of a call for a log did not come");
         return 1;
     }
     printf("%" PRIu64 " calls of the seed %" PRIu64 ", in which %" PRIu64 " runs join: a status each time, and no block is left\n",
