@@ -1,7 +1,19 @@
 """The exports of the library as ctypes calls them: lazbendix.h in Python, and nothing else."""
 import ctypes
 import os
-from ctypes import POINTER, c_char_p, c_int32, c_size_t, c_uint8, c_uint32, c_uint64, c_void_p
+import struct
+from ctypes import (
+    POINTER,
+    byref,
+    c_char,
+    c_char_p,
+    c_int32,
+    c_size_t,
+    c_uint8,
+    c_uint32,
+    c_uint64,
+    c_void_p,
+)
 from typing import Any
 
 HERE = os.path.dirname(os.path.abspath(__file__))
@@ -127,10 +139,29 @@ def load() -> ctypes.CDLL:
         )
     library = ctypes.CDLL(found)
     for name, arguments in EXPORTS.items():
-        export = getattr(library, f"lazbendix_{name}")
+        export = getattr(library, f"lazbendix_{name}", None)
+        if export is None:
+            raise ImportError(f"{found} has no lazbendix_{name}: it is older than this package")
         handle: list[Any] = [] if name in HANDLELESS else [POINTER(Handle)]
         export.argtypes, export.restype = [*handle, *arguments], c_int32
     return library
 
 
 LIBRARY = load()
+
+# A log calls this one for each of its calls: once more, without the checks of its arguments.
+LOG = LIBRARY["lazbendix_log"]
+LOG.restype = c_int32
+CALL_NUMBERS = struct.Struct("=QQIIII")  # of a ToldCall
+CallBytes = c_char * 24
+CALL_SIZE = c_size_t(24)
+
+
+def call_bytes(
+    kind: int, sort: int, device: int, value: int, first: int, second: int
+) -> bytes | None:
+    """The bytes of the call with these numbers, None where no call has them. Raises `struct.error`
+    where one does not fit into its bits."""
+    numbers, room = CALL_NUMBERS.pack(first, second, kind, sort, device, value), CallBytes()
+    status = LOG(byref(ToldCall.from_buffer_copy(numbers)), byref(room), CALL_SIZE)
+    return None if status else room.raw

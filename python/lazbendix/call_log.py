@@ -166,7 +166,7 @@ class CallLog:
         self._file: int | None = None
         self._holder = hold(f"{self.path}.lock")
         try:
-            data = read_file(self.path)
+            self._data = data = read_file(self.path)
             self.head = None if data is None else read_head(data)
             self._found, self._synced = ([], 0) if data is None else good_records(data)
         except BaseException:
@@ -228,19 +228,18 @@ class CallLog:
         self.may_go_on()
         if self._file is not None:
             raise LogRefused(LogFault.IN_USE, "the log has a home")
-        if self.head is None:
+        if self.head is None or self._data is None:
             self.replace(head, [])
             return []
         belongs(self.head, head, other_version)
         records, self._found = self._found, []
-        data, tail = bytearray(), HEAD_SIZE + RECORD_SIZE * self._synced
-        self._check = zlib.crc32(head_bytes(self.head))
-        for record in records:
-            data += self._packed(record.call, record.answers)
+        data, self._data = self._data, None
+        tail, end = (HEAD_SIZE + RECORD_SIZE * count for count in (self._synced, len(records)))
+        (self._check,) = CHECK.unpack_from(data, end - CHECK.size)
         self._file = os.open(self.path, os.O_RDWR | os.O_CLOEXEC)
         try:
-            write_at(self._file, bytes(data[RECORD_SIZE * self._synced :]), tail)
-            os.ftruncate(self._file, HEAD_SIZE + len(data))
+            write_at(self._file, data[tail:end], tail)
+            os.ftruncate(self._file, end)
             sync_file(self._file)
         except OSError as error:
             raise self.fail(error) from error
@@ -253,11 +252,11 @@ class CallLog:
         """
         self.may_go_on()
         begun = self._check
-        self._check = zlib.crc32(head_bytes(head))
-        data = head.to_bytes() + b"".join(self._packed(*record) for record in records)
         try:
+            self._check = zlib.crc32(head_bytes(head))
+            data = head.to_bytes() + b"".join(self._packed(*record) for record in records)
             file = new_file(self.path, data)
-        except OSError as error:
+        except (OSError, ValueError) as error:
             self._check = begun
             raise LogRefused(LogFault.FAILED, f"no new log: {error}") from error
         old, self._file = self._file, file

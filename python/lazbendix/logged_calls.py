@@ -3,16 +3,21 @@
 Kinds from 128 on are a file's own. They are no calls of the home, and stand in records of the same
 size.
 """
+import re
 import struct
 from enum import IntEnum
 from typing import Iterable, NamedTuple
 
+from lazbendix._calls import call_bytes
+from lazbendix.hubs import Hub
 from lazbendix.told import Answer, Dead, Entry, Found, Go, Moved, NoRun, Over, Turn, Waits, Worked
 
 LAYOUT = struct.Struct("<BBHIQQ")
 ENTRY = struct.Struct("<12Q")
 OWN = 128
 WORKED, FOUND, DEAD = 1, 2, 3
+PLAIN = re.compile(r"\d{4}-\d\d-\d\dT\d\d:\d\d:[0-5]\d", re.ASCII)
+ANY_HOME = '{"safehome": 1, "devices": [], "routines": [], "windows": []}'
 
 
 class CallKind(IntEnum):
@@ -47,11 +52,19 @@ class LoggedCall(NamedTuple):
     second: int = 0
 
     def to_bytes(self) -> bytes:
-        return LAYOUT.pack(*self)
+        """The library makes the bytes of a home's call. Raises `ValueError` where no call has these
+        numbers."""
+        try:
+            made = LAYOUT.pack(*self) if self.kind >= OWN else call_bytes(*self)
+        except struct.error as error:
+            raise ValueError(f"{self}: {error}") from error
+        if made is None:
+            raise ValueError(f"{self} is no call")
+        return made
 
 
 def began(at: str, probes: int) -> LoggedCall:
-    return LoggedCall(CallKind.BEGIN_WINDOW, value=probes, first=time_number(at))
+    return LoggedCall(CallKind.BEGIN_WINDOW, value=probes, first=time_number(plain_time(at)))
 
 
 def added(routine: int, follows: int) -> LoggedCall:
@@ -74,8 +87,19 @@ def answer_of(call: LoggedCall) -> Answer:
     return Worked() if call.sort == WORKED else Found(call.value) if call.sort == FOUND else Dead()
 
 
+def plain_time(at: str) -> str:
+    """The time as a record has it. A script may have other forms, which the library reads. Raises
+    `Refused` with BAD_TIME."""
+    if PLAIN.fullmatch(at):
+        return at
+    with Hub(ANY_HOME) as hub:
+        hub.window(hub.begin_window(at))
+        hub.close_window()
+        return hub.record().split()[2]
+
+
 def time_number(at: str) -> int:
-    """The number of a time's digits: 20261201090500 for `2026-12-01T09:05:00`."""
+    """The number of a plain time's digits: 20261201090500 for `2026-12-01T09:05:00`."""
     return int("".join(filter(str.isdigit, at)))
 
 

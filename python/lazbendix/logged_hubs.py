@@ -17,6 +17,7 @@ from lazbendix.logged_calls import (
     entries_bytes,
     gave,
     number_bytes,
+    plain_time,
     time_number,
     time_text,
     turn_bytes,
@@ -293,6 +294,7 @@ class LoggedHub(Hub):
     def begin_window(self, at: str, probes: int = 0) -> int:
         with self._logging():
             number = super().begin_window(at, probes)
+            at = plain_time(at)
             if number == 0:
                 self._windows.clear()
             self.last_time, self.begun = at, number

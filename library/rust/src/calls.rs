@@ -113,7 +113,6 @@ pub(crate) struct ToldCounts {
 }
 
 /// The numbers of a call for a log.
-#[cfg(test)]
 #[repr(C)]
 #[derive(Clone, Copy, Default)]
 pub(crate) struct ToldCall {
@@ -129,7 +128,6 @@ pub(crate) struct ToldCall {
 const _: () = assert!(size_of::<Handle>() == 16 && size_of::<ToldFault>() == 40 && size_of::<ToldEntry>() == 56);
 const _: () = assert!(size_of::<ToldMade>() == 176 && size_of::<ToldTurn>() == 272 && size_of::<ToldLeft>() == 8);
 const _: () = assert!(size_of::<ToldStand>() == 8 && size_of::<ToldCounts>() == 24 && size_of::<ToldItem>() == 16);
-#[cfg(test)]
 const _: () = assert!(size_of::<ToldCall>() == 32);
 
 const fn size_of<T>() -> usize {
@@ -201,16 +199,11 @@ extern "C" {
     fn lazbendix_routine_name(h: *mut Handle, routine: u32, room: *mut u8, room_len: usize, len: *mut usize) -> i32;
     fn lazbendix_value_name(h: *mut Handle, device: u32, value: u32, room: *mut u8, room_len: usize, len: *mut usize)
         -> i32;
+    fn lazbendix_log(call: *const ToldCall, room: *mut u8, room_len: usize) -> i32;
     fn lazbendix_version() -> i32;
 }
 
-#[cfg(test)]
-extern "C" {
-    fn lazbendix_log(call: *const ToldCall, room: *mut u8, room_len: usize) -> i32;
-}
-
-/// Writes the bytes of a call; the package makes its own, and its tests compare the two.
-#[cfg(test)]
+/// Writes the bytes of a call.
 pub(crate) fn log(call: &ToldCall, room: &mut [u8]) -> i32 {
     // SAFETY: as this module says.
     unsafe { lazbendix_log(call, room.as_mut_ptr(), room.len()) }

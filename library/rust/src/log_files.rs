@@ -1,7 +1,7 @@
 //! The file of a log of calls; docs/CALL-LOG.md has its bytes.
 #![forbid(unsafe_code)]
 
-use crate::calls;
+use crate::calls::{self, ToldCall};
 use crate::sums::{crc32, sha256};
 use crate::told::{Mode, Refused};
 use std::error::Error;
@@ -21,6 +21,8 @@ pub(crate) const PROBE: u8 = 6;
 pub(crate) const CLOSE_WINDOW: u8 = 7;
 pub(crate) const RESTAND: u8 = 8;
 pub(crate) const LOSE: u8 = 9;
+/// From here on kinds are the file's own.
+const OWN: u8 = 128;
 pub(crate) const STARTED: u8 = 128;
 pub(crate) const TRIGGERED: u8 = 129;
 pub(crate) const RUN_OF: u8 = 130;
@@ -53,7 +55,8 @@ pub enum LogFault {
     Damaged(u64),
     /// This call, made again, was refused, or answered something else.
     Differs(u64),
-    /// The disk refused a read, a write or a sync; or there was no memory for the record of a call that was made.
+    /// The disk refused a read, a write or a sync; or there was no memory, or there are no bytes, for the record of a call
+    /// that was made.
     Failed(ErrorKind),
 }
 
@@ -104,6 +107,35 @@ pub(crate) struct Call {
     pub(crate) second: u64,
 }
 
+impl Call {
+    /// The library makes the bytes of a home's call; refused where no call has these numbers.
+    fn bytes(&self) -> Result<[u8; CALL], LogFault> {
+        let (told, mut bytes) = (self.told(), [0; CALL]);
+        if self.kind >= OWN {
+            bytes = self.own_bytes();
+        } else if calls::log(&told, &mut bytes) != 0 {
+            return Err(LogFault::Failed(ErrorKind::InvalidInput));
+        }
+        Ok(bytes)
+    }
+
+    fn told(&self) -> ToldCall {
+        let (kind, sort, device) = (self.kind.into(), self.sort.into(), self.device.into());
+        ToldCall { first: self.first, second: self.second, kind, sort, device, value: self.value }
+    }
+
+    /// Those of a record of the file's own.
+    fn own_bytes(&self) -> [u8; CALL] {
+        let mut bytes = [0; CALL];
+        (bytes[0], bytes[1]) = (self.kind, self.sort);
+        bytes[2..4].copy_from_slice(&self.device.to_le_bytes());
+        bytes[4..8].copy_from_slice(&self.value.to_le_bytes());
+        bytes[8..16].copy_from_slice(&self.first.to_le_bytes());
+        bytes[16..].copy_from_slice(&self.second.to_le_bytes());
+        bytes
+    }
+}
+
 /// A call, and a checksum of what all calls up to it answered.
 #[derive(Clone, Copy, Debug, PartialEq, Eq)]
 pub(crate) struct Record {
@@ -112,16 +144,11 @@ pub(crate) struct Record {
 }
 
 impl Record {
-    fn body(&self) -> [u8; BODY] {
-        let (call, mut bytes) = (self.call, [0; BODY]);
-        bytes[0] = call.kind;
-        bytes[1] = call.sort;
-        bytes[2..4].copy_from_slice(&call.device.to_le_bytes());
-        bytes[4..8].copy_from_slice(&call.value.to_le_bytes());
-        bytes[8..16].copy_from_slice(&call.first.to_le_bytes());
-        bytes[16..CALL].copy_from_slice(&call.second.to_le_bytes());
+    fn body(&self) -> Result<[u8; BODY], LogFault> {
+        let mut bytes = [0; BODY];
+        bytes[..CALL].copy_from_slice(&self.call.bytes()?);
         bytes[CALL..].copy_from_slice(&self.answers.to_le_bytes());
-        bytes
+        Ok(bytes)
     }
 
     fn at(data: &[u8], at: usize) -> Record {
@@ -291,7 +318,7 @@ impl LogFile {
     }
 
     fn begin(path: &Path, head: &Head, lock: File) -> Result<(LogFile, Vec<Record>), LogFault> {
-        let (check, data) = bytes(head, &[]);
+        let (check, data) = bytes(head, &[])?;
         let file = new_file(path, &data).map_err(|error| failed(&error))?;
         sync_folder(path).map_err(|error| failed(&error))?;
         let path = path.to_owned();
@@ -301,7 +328,7 @@ impl LogFile {
     /// A new file with these records takes the place of the log. Where it can not be written the old one goes on.
     pub(crate) fn replace(&mut self, head: &Head, records: &[Record]) -> Result<(), LogFault> {
         self.may_go_on()?;
-        let (check, data) = bytes(head, records);
+        let (check, data) = bytes(head, records)?;
         self.file = new_file(&self.path, &data).map_err(|error| failed(&error))?;
         sync_folder(&self.path).map_err(|error| self.fail(failed(&error)))?;
         (self.check, self.count, self.durable) = (check, records.len() as u64, records.len() as u64);
@@ -309,9 +336,12 @@ impl LogFile {
         Ok(())
     }
 
-    pub(crate) fn append(&mut self, call: Call, answers: u32) {
-        self.check = pushed(&mut self.buffer, self.check, &Record { call, answers });
+    /// Where it refuses, the home is ahead of the log, and nothing may be let out any more.
+    pub(crate) fn append(&mut self, call: Call, answers: u32) -> Result<(), LogFault> {
+        let pushed = pushed(&mut self.buffer, self.check, &Record { call, answers });
+        self.check = pushed.map_err(|fault| self.fail(fault))?;
         self.count += 1;
+        Ok(())
     }
 
     /// What was appended is on the disk when this answers `Ok`. Else nothing may be let out any more.
@@ -320,7 +350,7 @@ impl LogFile {
         if self.buffer.is_empty() {
             return Ok(());
         }
-        self.append(Call { kind: SYNCED, first: self.durable, ..Call::default() }, 0);
+        self.append(Call { kind: SYNCED, first: self.durable, ..Call::default() }, 0)?;
         let at = START as u64 + RECORD as u64 * self.durable;
         self.file
             .write_all_at(&self.buffer, at)
@@ -343,51 +373,89 @@ impl LogFile {
 }
 
 /// The last checksum and the bytes of a log.
-fn bytes(head: &Head, records: &[Record]) -> (u32, Vec<u8>) {
+fn bytes(head: &Head, records: &[Record]) -> Result<(u32, Vec<u8>), LogFault> {
     let mut data = head.bytes().to_vec();
     let mut check = crc32(0, &data);
     data.extend(check.to_le_bytes());
     for record in records {
-        check = pushed(&mut data, check, record);
+        check = pushed(&mut data, check, record)?;
     }
-    (check, data)
+    Ok((check, data))
 }
 
 /// Appends the bytes of the record that follows the one with this checksum; its own checksum.
-fn pushed(data: &mut Vec<u8>, before: u32, record: &Record) -> u32 {
-    let body = record.body();
+fn pushed(data: &mut Vec<u8>, before: u32, record: &Record) -> Result<u32, LogFault> {
+    let body = record.body()?;
     let check = crc32(before, &body);
     data.extend(body);
     data.extend(check.to_le_bytes());
-    check
+    Ok(check)
 }
 
 #[cfg(test)]
 mod tests {
     use super::*;
-    use crate::calls::ToldCall;
 
-    fn same(kind: u8, sort: u8, device: u16, value: u32, first: u64, second: u64) {
-        let record = Record { call: Call { kind, sort, device, value, first, second }, answers: 0 };
-        let told = ToldCall { first, second, kind: kind.into(), sort: sort.into(), device: device.into(), value };
-        let mut room = [0; CALL];
-        assert_eq!(calls::log(&told, &mut room), 0);
-        assert_eq!(room, record.body()[..CALL]);
+    /// The rows of the table in docs/CALL-LOG.md, as its test in C has them, and its two records.
+    #[rustfmt::skip]
+    const PAGE: [(Call, &[u8]); 13] = [
+        (call(1, 0, 0, 2, 20261201090500, 0), &[1, 0, 0, 0, 2, 0, 0, 0, 0xc4, 0x97, 0xb1, 0x6d, 0x6d, 0x12]),
+        (call(2, 0, 0, 258, 0, 0), &[2, 0, 0, 0, 2, 1]),
+        (call(2, 1, 0, 3, 4294967295, 0), &[2, 1, 0, 0, 3, 0, 0, 0, 255, 255, 255, 255]),
+        (call(3, 0, 0, 4294967295, 0, 0), &[3, 0, 0, 0, 255, 255, 255, 255]),
+        (call(4, 0, 0, 64, 0, u64::MAX),
+         &[4, 0, 0, 0, 64, 0, 0, 0, 0, 0, 0, 0, 0, 0, 0, 0, 255, 255, 255, 255, 255, 255, 255, 255]),
+        (call(4, 0, 0, 1, 0, 1500), &[4, 0, 0, 0, 1, 0, 0, 0, 0, 0, 0, 0, 0, 0, 0, 0, 0xdc, 5]),
+        (call(5, 1, 3, 0, 7, 1750), &[5, 1, 3, 0, 0, 0, 0, 0, 7, 0, 0, 0, 0, 0, 0, 0, 0xd6, 6]),
+        (call(5, 2, 65535, 9, u64::MAX, 256),
+         &[5, 2, 255, 255, 9, 0, 0, 0, 255, 255, 255, 255, 255, 255, 255, 255, 0, 1]),
+        (call(5, 3, 1, 0, 8, 1), &[5, 3, 1, 0, 0, 0, 0, 0, 8, 0, 0, 0, 0, 0, 0, 0, 1]),
+        (call(6, 0, 256, 0, 0, 0), &[6, 0, 0, 1]),
+        (call(7, 0, 0, 0, 0, 0), &[7]),
+        (call(8, 0, 2, 1, 0, 0), &[8, 0, 2, 0, 1]),
+        (call(9, 0, 513, 0, 0, 0), &[9, 0, 1, 2]),
+    ];
+
+    const fn call(kind: u8, sort: u8, device: u16, value: u32, first: u64, second: u64) -> Call {
+        Call { kind, sort, device, value, first, second }
     }
 
     #[test]
-    fn a_call_has_the_bytes_that_the_library_makes() {
-        same(BEGIN_WINDOW, 0, 0, 3, 20261201090500, 0);
-        same(ADD_RUN, 0, 0, u32::MAX, 0, 0);
-        same(ADD_RUN, 1, 0, 258, u64::from(u32::MAX), 0);
-        same(WINDOW, 0, 0, 287, 0, 0);
-        same(TAKE, 0, 0, 64, 0, u64::MAX);
-        same(GIVE, 1, 3, 0, 7, 1750);
-        same(GIVE, 2, u16::MAX, 9, u64::MAX, 256);
-        same(GIVE, 3, 1, 0, 8, 1);
-        same(PROBE, 0, 256, 0, 0, 0);
-        same(CLOSE_WINDOW, 0, 0, 0, 0, 0);
-        same(RESTAND, 0, 2, 1, 0, 0);
-        same(LOSE, 0, 513, 0, 0, 0);
+    fn a_call_has_the_bytes_of_the_page() {
+        for (call, page) in PAGE {
+            let mut wanted = [0; CALL];
+            wanted[..page.len()].copy_from_slice(page);
+            assert_eq!(call.bytes(), Ok(wanted));
+            let body = Record { call, answers: 9 }.body().unwrap();
+            assert_eq!(Record::at(&body, 0), Record { call, answers: 9 });
+        }
+    }
+
+    #[test]
+    fn a_record_of_the_files_own_has_the_bytes_of_the_page() {
+        let mut wanted = [0; CALL];
+        (wanted[0], wanted[4], wanted[9], wanted[23]) = (ANEW, 3, 1, 128);
+        assert_eq!(call(ANEW, 0, 0, 3, 256, 1 << 63).bytes(), Ok(wanted));
+    }
+
+    #[test]
+    fn numbers_of_no_call_are_refused() {
+        for none in
+            [call(0, 0, 0, 0, 0, 0), call(1, 0, 0, 0, 20261301090500, 0), call(5, 4, 0, 0, 1, 1), call(7, 0, 1, 0, 0, 0)]
+        {
+            assert_eq!(none.bytes(), Err(LogFault::Failed(ErrorKind::InvalidInput)));
+        }
+    }
+
+    #[test]
+    fn a_log_that_has_no_bytes_for_a_call_has_failed() {
+        let path = std::env::temp_dir().join(format!("lazbendix-none-{}", std::process::id()));
+        let (mut log, _) = LogFile::open(&path, &Head::new(b"", Mode::default()), false).unwrap();
+        let failed = Err(LogFault::Failed(ErrorKind::InvalidInput));
+        assert_eq!(log.append(call(CLOSE_WINDOW, 0, 1, 0, 0, 0), 0), failed);
+        assert_eq!((log.may_go_on(), log.sync(), log.count), (failed, failed, 0));
+        for file in [&path, &beside(&path, ".lock")] {
+            fs::remove_file(file).unwrap();
+        }
     }
 }

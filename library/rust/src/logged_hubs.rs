@@ -107,6 +107,8 @@ impl fmt::Debug for LoggedHub {
     }
 }
 
+const ANY_HOME: &[u8] = br#"{"safehome": 1, "devices": [], "routines": [], "windows": []}"#;
+
 fn is_drive(go: &Go) -> bool {
     matches!(go.task, Task::Drive(_) | Task::Restore(_))
 }
@@ -204,7 +206,7 @@ impl LoggedHub {
     fn keep(&mut self, call: Call, answered: &[u8]) -> Result<(), LogError> {
         self.answers = crc32(self.answers, answered);
         match self.again {
-            None => self.log.append(call, self.answers),
+            None => self.log.append(call, self.answers)?,
             Some(again) if again != (Record { call, answers: self.answers }) => return Err(LogFault::Differs(0).into()),
             Some(_) => {}
         }
@@ -245,7 +247,7 @@ impl LoggedHub {
         self.log.may_go_on()?;
         if self.noted < self.handed {
             self.noted = self.handed;
-            self.log.append(Call { kind: log::REPORTED, first: self.noted, ..Call::default() }, 0);
+            self.log.append(Call { kind: log::REPORTED, first: self.noted, ..Call::default() }, 0)?;
         }
         let out = LetOut { calls: std::mem::take(&mut self.ready), reports: std::mem::take(&mut self.reports) };
         self.handed = self.made;
@@ -315,12 +317,14 @@ impl LoggedHub {
     pub fn begin_window(&mut self, at: &str, probes: u32) -> Result<u32, LogError> {
         self.log.may_go_on()?;
         let number = self.hub.begin_window(at, probes)?;
+        // (the window is begun: without its time the home would be ahead of the log)
+        let at = plain_time(at).map_err(|_| self.log.fail(LogFault::Failed(ErrorKind::OutOfMemory)))?;
         if number == 0 {
             self.windows.clear();
         }
-        (self.last_time, self.begun) = (Some(at.to_owned()), Some(number));
-        self.windows.insert(number, Runs { at: at.to_owned(), runs: Vec::new() });
-        let call = Call { kind: log::BEGIN_WINDOW, value: probes, first: time_number(at), ..Call::default() };
+        let call = Call { kind: log::BEGIN_WINDOW, value: probes, first: time_number(&at), ..Call::default() };
+        (self.last_time, self.begun) = (Some(at.clone()), Some(number));
+        self.windows.insert(number, Runs { at, runs: Vec::new() });
         self.keep(call, &u64::from(number).to_le_bytes())?;
         Ok(number)
     }
@@ -467,8 +471,7 @@ impl LoggedHub {
             let devices = self.hub.counts()?.devices as u32;
             self.former = (0..devices).filter_map(|device| self.out(device).ok()).collect();
         }
-        self.log.append(Call { kind: log::STARTED, ..Call::default() }, 0);
-        Ok(())
+        Ok(self.log.append(Call { kind: log::STARTED, ..Call::default() }, 0)?)
     }
 
     fn make(&mut self, call: Call) -> Result<(), LogError> {
@@ -657,7 +660,20 @@ impl LoggedHub {
     }
 }
 
-/// The number of a time's digits: 20261201090500 for `2026-12-01T09:05:00`.
+/// The time as a record has it. A script may have other forms, which the library reads.
+fn plain_time(at: &str) -> Result<String, Refused> {
+    let fits = |(sign, form): (u8, u8)| if form == b'0' { sign.is_ascii_digit() } else { sign == form };
+    if at.len() == 19 && at.bytes().zip(*b"0000-00-00T00:00:00").all(fits) && at.as_bytes()[17] < b'6' {
+        return Ok(at.to_owned());
+    }
+    let mut hub = Hub::open(ANY_HOME, Mode::default())?;
+    let number = hub.begin_window(at, 0)?;
+    hub.window(number)?;
+    hub.close_window()?;
+    Ok(hub.record(false)?.split_whitespace().nth(2).unwrap_or_default().to_owned())
+}
+
+/// The number of a plain time's digits: 20261201090500 for `2026-12-01T09:05:00`.
 fn time_number(at: &str) -> u64 {
     at.chars().filter_map(|sign| sign.to_digit(10)).fold(0, |number, digit| number * 10 + u64::from(digit))
 }

@@ -300,6 +300,13 @@ class Refusing(Files):
         self.assertEqual(written[0] % RECORD_SIZE, 0)
         self.assertGreater(written[0], 5 * RECORD_SIZE)
 
+    def test_a_call_of_which_there_are_no_bytes(self) -> None:
+        log, hub = self.opened()
+        begin(hub, BOTH)
+        with mock.patch("lazbendix._calls.LOG", return_value=Status.NO_CALL), self.assertRaises(ValueError):
+            hub.take(1, 9)  # the home is ahead of the log
+        self.gives_up(log, hub)
+
     def test_a_write_that_fails_half_way(self) -> None:
         for left in (0, 1, 31, 32, 100):
             path = f"{self.path}-{left}"
@@ -438,6 +445,21 @@ class TwoRules(Files):
 
 
 class Lives(Files):
+    def test_a_window_at_a_time_of_another_form(self) -> None:
+        for at, plain in [("2012-12-01T09:05", "2012-12-01T09:05:00"), ("2012-12-01 09:05:60+02:00", "2012-12-01T09:05:59")]:
+            log, hub = self.opened(f"{self.path}-{plain[-2:]}")
+            begin(hub, BOTH, at)
+            self.assertEqual(hub.last_time, plain)
+            kept = view(hub)
+            self.shut(log)
+            log, hub = self.opened(log.path)
+            self.assertEqual((view(hub), hub.last_time), (kept, plain))
+            while isinstance(turn := step(hub), Go):
+                work(hub, turn)
+            hub.close_window()
+            self.assertEqual([report.at for report in hub.let_out().reports if isinstance(report, Closed)], [plain])
+            self.shut(log)
+
     def test_reports_come_at_least_once_and_know_their_trigger(self) -> None:
         log, hub = self.opened()
         self.assertTrue(hub.is_new)
