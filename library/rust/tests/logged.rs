@@ -43,8 +43,15 @@ impl Drop for Folder {
     }
 }
 
+/// A child that another test starts has the locks of this process until it runs.
 fn open(path: &Path) -> LoggedHub {
-    LoggedHub::open(path, SCRIPT, Mode::default()).unwrap()
+    for _ in 0..10_000 {
+        match LoggedHub::open(path, SCRIPT, Mode::default()) {
+            Err(LogError::Log(LogFault::InUse)) => std::thread::sleep(std::time::Duration::from_millis(1)),
+            opened => return opened.unwrap(),
+        }
+    }
+    panic!("the log is in use");
 }
 
 fn fault(opened: Result<LoggedHub, LogError>) -> LogFault {
@@ -409,6 +416,151 @@ fn on_a_full_disk_nothing_is_let_out_any_more() {
     assert!(kept > 2 && hub.queue().len() >= kept);
     assert!(step(&mut hub).is_some());
     assert_eq!(hub.let_out().unwrap().calls.len(), 1);
+}
+
+/// A sync that the system itself refuses.
+#[cfg(target_os = "linux")]
+mod unsynced {
+    use super::*;
+    use std::io::{self, ErrorKind};
+    use std::os::unix::io::AsRawFd;
+
+    /// A home of which a trigger was reported, and whose next trigger and first drive are held back, since the log is not synced.
+    fn held_back(path: &Path) -> (LoggedHub, Go) {
+        let mut hub = open(path);
+        begin(&mut hub, BOTH);
+        assert_eq!(hub.let_out().unwrap().reports, [(1, Report::Triggered { trigger: 1, routine: BOTH })]);
+        assert_eq!(hub.trigger(TWICE), Ok(2));
+        let go = step(&mut hub).unwrap();
+        (hub, go)
+    }
+
+    /// Nothing is let out, and no call is made any more.
+    fn gives_up(hub: &mut LoggedHub, kind: ErrorKind, go: Go) {
+        let failed = LogError::Log(LogFault::Failed(kind));
+        for _ in 0..2 {
+            assert_eq!(hub.let_out(), Err(failed));
+        }
+        assert_eq!(hub.sync(), Err(failed));
+        assert_eq!(hub.trigger(BOTH), Err(failed));
+        assert_eq!(hub.take(1, 9), Err(failed));
+        assert_eq!(hub.give(go.device, go.ticket, Answer::Worked, 9), Err(failed));
+        assert_eq!(hub.begin_anew(), Err(failed));
+    }
+
+    /// Puts a device in the place of the open file, which takes all that is written, and which can not be synced.
+    fn put_null_under(path: &Path) {
+        extern "C" {
+            fn dup2(from: i32, to: i32) -> i32;
+        }
+        let path = fs::canonicalize(path).unwrap();
+        let mut files = fs::read_dir("/proc/self/fd").unwrap().map(|file| file.unwrap().path());
+        let file = files.find(|file| fs::read_link(file).is_ok_and(|name| name == path)).unwrap();
+        let number = file.file_name().unwrap().to_str().unwrap().parse().unwrap();
+        let null = fs::OpenOptions::new().write(true).open("/dev/null").unwrap();
+        // SAFETY: both are open, and the log keeps its number.
+        assert_eq!(unsafe { dup2(null.as_raw_fd(), number) }, number);
+    }
+
+    #[test]
+    fn where_a_sync_fails_nothing_is_let_out_and_what_was_synced_stays() {
+        let folder = Folder::new("unsynced");
+        let path = folder.path("calls");
+        let (mut hub, go) = held_back(&path);
+        let synced = fs::read(&path).unwrap();
+        put_null_under(&path);
+        gives_up(&mut hub, ErrorKind::InvalidInput, go);
+        drop(hub);
+        assert_eq!(fs::read(&path).unwrap(), synced);
+        let mut again = open(&path);
+        assert_eq!((again.former(), again.queue().len(), again.opened()), (&[][..], 0, Some(0)));
+        assert_eq!(again.let_out().unwrap().reports, [(1, Report::Triggered { trigger: 1, routine: BOTH })]);
+        assert_eq!((again.trigger(TWICE), step(&mut again)), (Ok(2), Some(go)));
+        assert_eq!(again.let_out().unwrap().calls, [go]);
+    }
+
+    /// From now on the system makes no sync of this thread, and answers an error of the disk.
+    fn refuse_syncs() {
+        #[repr(C)]
+        struct Step(u16, u8, u8, u32); // what, how many steps to leave out if so and if not, a number
+        #[repr(C)]
+        struct Program(u16, *const Step);
+        extern "C" {
+            fn prctl(option: i32, ...) -> i32;
+        }
+        const NO_NEW_PRIVILEGES: i32 = 38;
+        const SECCOMP: i32 = 22;
+        const FDATASYNC: u32 = if cfg!(target_arch = "aarch64") { 83 } else { 75 };
+        const INPUT_OUTPUT_ERROR: u32 = 5;
+        let call = Step(0x20, 0, 0, 0);
+        let is_sync = Step(0x15, 0, 1, FDATASYNC);
+        let steps = [call, is_sync, Step(6, 0, 0, 0x0005_0000 | INPUT_OUTPUT_ERROR), Step(6, 0, 0, 0x7fff_0000)];
+        let program = Program(4, steps.as_ptr());
+        // SAFETY: the program and its steps are there during the calls, which read them alone.
+        assert_eq!(unsafe { prctl(NO_NEW_PRIVILEGES, 1usize, 0usize, 0usize, 0usize) }, 0);
+        assert_eq!(unsafe { prctl(SECCOMP, 2usize, &program as *const Program) }, 0);
+    }
+
+    #[test]
+    fn what_a_sync_that_failed_has_written_is_synced_in_the_next_life() {
+        let folder = Folder::new("written");
+        let path = folder.path("calls");
+        let (mut hub, go) = held_back(&path);
+        let synced = fs::read(&path).unwrap();
+        let unsynced = |hub: &mut LoggedHub| {
+            refuse_syncs();
+            let failed = hub.let_out().unwrap_err();
+            let LogError::Log(LogFault::Failed(kind)) = failed else { panic!("{failed}") };
+            assert_eq!(io::Error::from_raw_os_error(5).kind(), kind);
+            gives_up(hub, kind, go);
+            fault(LoggedHub::open(&path.with_extension("new"), SCRIPT, Mode::default()))
+        };
+        let begun = std::thread::scope(|life| life.spawn(|| unsynced(&mut hub)).join().unwrap());
+        assert!(matches!(begun, LogFault::Failed(_)), "{begun:?}");
+        drop(hub);
+        let written = fs::read(&path).unwrap();
+        assert!(written.len() > synced.len() && written.starts_with(&synced));
+        let mut again = open(&path);
+        assert_eq!((again.former(), again.queue().get(&2)), (&[go][..], Some(&TWICE)));
+        assert!(again.let_out().unwrap().reports.contains(&(2, Report::Triggered { trigger: 2, routine: TWICE })));
+        again.call_again(&[]).unwrap();
+        assert_eq!(again.let_out().unwrap().calls, [go]);
+    }
+}
+
+#[test]
+fn a_window_at_a_time_of_any_form_is_made_again() {
+    let folder = Folder::new("times");
+    let forms = [
+        ("2012-12-01T09:05", "2012-12-01T09:05:00"),
+        ("2012-12-02", "2012-12-02T00:00:00"),
+        ("20121202 070530,25", "2012-12-02T07:05:30"),
+        ("2012-12-03T07:05:60", "2012-12-03T07:05:59"),
+        ("+002012-12-03T08+02:30:15", "2012-12-03T08:00:00"),
+        ("2012-12-03T09:05:00[+02]", "2012-12-03T09:05:00"),
+        ("2012-12-03t10:00:00.123456789-0230[!Etc/GMT-2][u-ca=iso8601]", "2012-12-03T10:00:00"),
+    ];
+    let path = folder.path("calls");
+    let mut hub = open(&path);
+    for (at, plain) in forms {
+        let number = hub.begin_window(at, 0).unwrap();
+        hub.add_run(BOTH, None).unwrap();
+        assert_eq!(hub.last_time(), Some(plain));
+        hub.sync().unwrap();
+        drop(hub);
+        hub = open(&path);
+        assert_eq!((hub.last_time(), hub.begun()), (Some(plain), Some(number)));
+        hub.window(number).unwrap();
+        while let Some(go) = step(&mut hub) {
+            work(&mut hub, go);
+        }
+        hub.close_window().unwrap();
+        assert!(hub.record(false).unwrap().starts_with(&format!("window {} {plain}\n", number + 1)));
+        hub.let_out().unwrap();
+    }
+    for at in ["2012-12-04T", "2012-12-04T09:05:61", "2012-12-04T09:05Z", "2012-12-03T10:00:00", ""] {
+        assert_eq!(hub.begin_window(at, 0), Err(LogError::Refused(Refused(Status::BadTime))));
+    }
 }
 
 #[test]
