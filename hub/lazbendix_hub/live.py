@@ -36,6 +36,7 @@ ASKING = 0.03  # s between two devices that are asked where they are
 SLEPT, HEARING = 0.25, 1.0  # s: a limit that is noticed so late is not over, but for so long more
 SECOND = datetime.timedelta(seconds=1)
 MOST_STEPS = 400  # of the time line of a run
+LATEST = 10  # limits after which a command that was given up comes no more
 
 
 class Driver(Protocol):
@@ -172,6 +173,7 @@ class LiveHub:
         self.ask_at: dict[int, float] = {}
         self.back_off: dict[int, float] = {}
         self.believed: dict[int, int] = {}
+        self.given_up: dict[int, list[tuple[float, int]]] = {}  # until when, and the value
         self.turned: set[int] = set()
         self.last_time = datetime.datetime.min
         self.quiet = asyncio.Event()
@@ -385,18 +387,37 @@ class LiveHub:
             self.quiet.set()
 
     def _restand(self) -> None:
-        """Tells the home where devices are that others turned, and which ones say that they are
-        away."""
+        """Tells the home where devices are that others turned, and which ones are lost: they say
+        that they are away, or a command that was given up has come to them after all."""
         for device in range(self.home.core_count):
             driver, stand = self.drivers[device], self.calls.stand(device)
-            if driver.is_away and stand.up:
+            is_strayed = self._is_strayed(device, stand.value)
+            is_late = is_strayed and self._is_late(device)
+            if stand.up and (driver.is_away or is_late):
                 self.calls.lose(device)
                 self.records.lost(self.home.devices[device].name)
                 self._count(device, False)
+                if is_late:
+                    self.show(device)  # so it is driven to the home's value at once
             is_turned = device in self.turned and not driver.is_away
-            if (stand.up or is_turned) and self._is_strayed(device, stand.value):
+            if is_strayed and not is_late and (stand.up or is_turned):
                 self._found(device)
         self.turned.clear()
+
+    def _is_late(self, device: int) -> bool:
+        """Whether the device stands where a command that was given up would have it: then nobody
+        turned it, and the home's value stays."""
+        driver, now = self.drivers[device], self.loop.time()
+        return driver.value is not None and any(
+            now < until and driver.kind.is_near(driver.value, value)
+            for until, value in self.given_up.get(device, ()))
+
+    def _give_up(self, go: Go) -> None:
+        """Notes the value of a command that was not answered."""
+        now = self.loop.time()
+        kept = [each for each in self.given_up.get(go.device, ()) if each[0] > now]
+        until = now + LATEST * self.drivers[go.device].limit
+        self.given_up[go.device] = [*kept, (until, go.value)]
 
     def _found(self, device: int) -> None:
         driver = self.drivers[device]
@@ -680,6 +701,8 @@ class LiveHub:
         is_dead = isinstance(answer, Dead)
         if is_dead:
             self.counts["dead"] += 1
+            if out.task is not None and go.task in (Task.DRIVE, Task.RESTORE):
+                self._give_up(go)
         elif go.task in (Task.DRIVE, Task.RESTORE):
             self.believed[go.device] = go.value
         elif go.task is Task.SENSE:

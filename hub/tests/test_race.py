@@ -12,7 +12,7 @@ from typing import Awaitable, Callable
 
 from lazbendix_hub.drivers import DeviceDriver
 from lazbendix_hub.simulated import Manner
-from tests.stage import Stage
+from tests.stage import Stage, until
 
 NAMES = ("lamp", "glow", "shelf")
 TEXT = """
@@ -26,7 +26,10 @@ routines:
   evening: {do: [{set: lamp, to: 20}, {set: glow, to: 20}, {set: shelf, to: 20}]}
   guests: {do: [{set: shelf, to: 250}, {set: glow, to: 250}, {set: lamp, to: 250}]}
   half: {do: [{set: lamp, to: 99}, {set: glow, to: 99}, {set: gone, to: 99}]}
+  half_shelf: {do: [{set: shelf, to: 99}, {set: gone, to: 99}]}
 """
+# Limits that devices often miss: their commands are given up, and come after all.
+SHORT = TEXT.replace("limit: 20s", "limit: 0.2").replace(", limit: 0.6", "")
 Play = Callable[[str], Awaitable[None]]
 
 
@@ -102,7 +105,82 @@ async def play(races: int, tries: int) -> dict[str, tuple[int, int]]:
     return found
 
 
+def kind_of(stage: Stage, names: list[str]) -> str:
+    """Whether these devices stand where one routine has them."""
+    seen = [stage.devices[name].value or 0 for name in names]
+    return "low" if all(value < 25 for value in seen) else \
+        "high" if all(value > 240 for value in seen) else "mixed"
+
+
+class Windows:
+    """Looks at the devices at the end of each window: those that are up have to be where the home
+    has them, and have to agree. `wrong` has what is not so, `downs` how many ends had one down."""
+
+    def __init__(self, stage: Stage) -> None:
+        self.stage, self.wrong, self.downs = stage, list[str](), 0
+        self.closed = stage.live._closed
+        stage.live._closed = self.look  # type: ignore[method-assign]
+
+    def look(self) -> None:
+        """A window has ended."""
+        self.closed()
+        stands = {name: stand for name, stand in self.stage.stands().items() if name in NAMES}
+        up = [name for name, stand in stands.items() if stand[2]]
+        self.downs += len(up) < len(NAMES)
+        if any(stands[name][0] != stands[name][1] for name in up) \
+                or kind_of(self.stage, up) == "mixed":
+            self.wrong.append(str(stands))
+
+
+async def settle(stage: Stage) -> None:
+    """Waits until each device is up, and has done all that it was sent."""
+    calm = 0
+    while calm < 50:
+        await asyncio.sleep(0.01)
+        is_busy = stage.live.is_open or stage.live.queue or stage.live.down & {0, 1, 2} \
+            or any(stage.devices[name].jobs.qsize() for name in NAMES)
+        calm = 0 if is_busy else calm + 1
+
+
 class Races(unittest.IsolatedAsyncioTestCase):
+    async def test_devices_that_are_late(self) -> None:
+        async with Stage(SHORT, Manner(late=0.15), without=("gone",)) as stage:
+            race, windows = Race(stage), Windows(stage)
+            for _ in range(12):
+                await asyncio.gather(race.hub("evening"), race.hub("guests"))
+                await asyncio.wait_for(settle(stage), 60)
+                self.assertNotEqual(kind_of(stage, list(NAMES)), "mixed")
+            self.assertEqual(windows.wrong, [])
+            self.assertGreater(windows.downs, 0)
+            self.assertEqual(stage.live.counts["turned"], 0)  # no hand was at them
+            self.assertIn("runs agree", stage.check())
+
+    async def test_a_command_that_was_given_up_comes_after_all(self) -> None:
+        async with Stage(SHORT.replace("limit: 0.2", "limit: 1s"), Manner(late=0),
+                         without=("gone",)) as stage:
+            shelf = stage.devices["shelf"]
+            await stage.run("evening")
+            shelf.task.cancel()  # from here on it does nothing by itself, and is sent commands
+            told, = await stage.run("guests")
+            self.assertEqual((told.outcome, told.cause_kind), ("aborted", "no-answer"))
+            for _ in range(200):  # it answers what it was asked before, and is found again
+                if 2 not in stage.live.down:
+                    break
+                shelf.show()
+                await asyncio.sleep(0.01)
+            await stage.quiet()
+            self.assertEqual(stage.stands()["shelf"], ("20", "20", True))
+            shelf.turn(250)  # what was given up is done
+            await until(lambda: 2 in stage.live.down)
+            told, = await stage.run("half_shelf")
+            self.assertEqual(told.outcome, "aborted")
+            shelf.task = asyncio.get_running_loop().create_task(shelf._live())
+            await asyncio.wait_for(settle(stage), 60)
+            for name in NAMES:
+                self.assertEqual(stage.stands()[name], ("20", "20", True), name)
+            self.assertEqual(stage.live.counts["turned"], 0)
+            self.assertIn("runs agree", stage.check())
+
     async def test_the_race(self) -> None:
         found = await play(20, 3)
         self.assertGreater(found["steps that wait for the state"][0], 10)
