@@ -1,8 +1,10 @@
 """The same race by three hands: steps that do not wait, steps that wait for the state, the hub.
 
 Two routines over the same three lamps, in opposite orders, begin within 20 ms of each other: an end
-is mixed where it is the one of neither. Then a routine of three steps whose last device is gone: it
-is half done where the first two stay. `python3 -m tests.test_race 100` prints what comes of 100.
+is mixed where it is the one of neither. With limits that the lamps miss, those that are up agree at
+each end, and all do once each has come back. Then a routine of three steps whose last device is
+gone: it is half done where the first two stay. `python3 -m tests.test_race 100` prints what comes
+of 100.
 """
 import asyncio
 import random
@@ -11,6 +13,7 @@ import unittest
 from typing import Awaitable, Callable
 
 from lazbendix_hub.drivers import DeviceDriver
+from lazbendix_hub.live import Watcher
 from lazbendix_hub.simulated import Manner
 from tests.stage import Stage, until
 
@@ -112,18 +115,20 @@ def kind_of(stage: Stage, names: list[str]) -> str:
         "high" if all(value > 240 for value in seen) else "mixed"
 
 
-class Windows:
+class Windows(Watcher):
     """Looks at the devices at the end of each window: those that are up have to be where the home
     has them, and have to agree. `wrong` has what is not so, `downs` how many ends had one down."""
 
     def __init__(self, stage: Stage) -> None:
-        self.stage, self.wrong, self.downs = stage, list[str](), 0
-        self.closed = stage.live._closed
-        stage.live._closed = self.look  # type: ignore[method-assign]
+        self.stage, self.wrong, self.downs, self.ends = stage, list[str](), 0, 0
+        stage.live.watchers.append(self)
 
-    def look(self) -> None:
-        """A window has ended."""
-        self.closed()
+    def changed(self) -> None:
+        """Something has changed: perhaps a window has ended."""
+        count = self.stage.live.counts["windows"]
+        if self.stage.live.is_open or count == self.ends:
+            return
+        self.ends = count
         stands = {name: stand for name, stand in self.stage.stands().items() if name in NAMES}
         up = [name for name, stand in stands.items() if stand[2]]
         self.downs += len(up) < len(NAMES)
@@ -151,6 +156,7 @@ class Races(unittest.IsolatedAsyncioTestCase):
                 await asyncio.wait_for(settle(stage), 60)
                 self.assertNotEqual(kind_of(stage, list(NAMES)), "mixed")
             self.assertEqual(windows.wrong, [])
+            self.assertGreater(windows.ends, windows.downs)
             self.assertGreater(windows.downs, 0)
             self.assertEqual(stage.live.counts["turned"], 0)  # no hand was at them
             self.assertIn("runs agree", stage.check())
