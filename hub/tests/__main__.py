@@ -18,7 +18,8 @@ from concurrent.futures import ThreadPoolExecutor
 PACKAGES = ("paho", "aiohttp", "croniter", "yaml", "prometheus_client")
 FOLDER = os.path.dirname(os.path.abspath(__file__))
 # The modules that take longest, which begin first.
-LONGEST = ("test_process", "test_page", "test_live", "test_kills", "test_day", "test_assistant")
+LONGEST = ("test_race", "test_process", "test_page", "test_live", "test_kills", "test_day",
+           "test_assistant")
 
 
 def main() -> int:
