@@ -1,25 +1,24 @@
 -- What the file keeps once a group of calls, or the head, is written.
 use Rattle.call_log.proofs.Reading.{calls_before, calls_length, good_head, of_append}
-use Rattle.call_log.proofs.Slots.{kept_shut, slots-length, slots_append}
 use Rattle.call_log.specs.CallLogs.{AddsCalls, BeginsWith, FindsAll, IsSameOrNew, KeepsCalls, KnowsCalls, LeavesCalls, LeavesNone, LeavesOldOrSame, call_slots}
 use Rattle.call_log.specs.Heads.{head_bytes, head_difference, head_fault, head_in, head_sum, is_head}
 use Rattle.call_log.specs.KeptCalls.{calls_in, calls_of, kept_calls, unless_fault, with_call}
-use Rattle.call_log.specs.LogFiles.{IsGroup, IsOldOrAll, IsOldOrSame, IsRead}
+use Rattle.call_log.specs.LogFiles.{IsRead}
 use Rattle.call_log.specs.declared.faults.LogFault.TheVariants.{NotALog}
 use Rattle.call_log.specs.declared.faults.LogFault.{LogFault}
 use Rattle.call_log.specs.declared.heads.Head.{Head}
-use Rattle.home_journal.proofs.Cited.{then_on, weaker}
-use Rattle.home_journal.specs.Disks.{Holds, LeavesThis, Torn}
-use Rattle.home_journal.specs.SlotFiles.{AreSlots, IsSettled, slots_of}
-use Rattle.home_journal.specs.Slots.{open_slots}
+use Rattle.slot_disks.proofs.Cited.{kept_shut, one_size, slots-length, slots_append, then_on, weaker}
+use Rattle.slot_disks.specs.Disks.{Holds, LeavesThis, Torn}
+use Rattle.slot_disks.specs.SlotFiles.{AreSlots, IsGroup, IsOldOrAll, IsOldOrSame, IsSettled, slots_of}
+use Rattle.slot_disks.specs.Slots.{open_slots}
 use Rattle.logged_calls.specs.CallBytes.{call_bytes, calls_bytes, calls_from, front_call, with_first}
 use Rattle.logged_calls.specs.Calls.{IsLoggable}
 use Rattle.logged_calls.specs.declared.calls.Logged.{Logged}
-use Rattle.std.proofs.Common.{All, List, None, Option, Some, [], ap, append_assoc, arith, drop, inl, inr, length, length-append, map, refl, subst, suc, sym, true, w16, w32, w64, zero, ℕ, ◌*◌, ◌++◌, ◌+◌, ◌<◌, ◌^◌, ◌≡◌, ◌≢◌, ◌∙◌, ◌∷◌, ◌⊎◌}
+use Rattle.std.proofs.Common.{All, List, None, Option, Some, [], ap, append_assoc, arith, drop, inl, inr, length, length-append, length-drop, map, refl, subst, suc, sym, take, true, w16, w32, w64, zero, ℕ, ◌*◌, ◌++◌, ◌+◌, ◌-◌, ◌<◌, ◌^◌, ◌≡◌, ◌≢◌, ◌∙◌, ◌∷◌, ◌⊎◌}
 use Rattle.std.proofs.lemmas.Bool.{cases_eq}
 use Rattle.std.proofs.lemmas.Grind.{common_steps}
 use Rattle.std.proofs.lemmas.List.Elements.{All-tail}
-use Rattle.std.proofs.lemmas.List.{append-nil, length-map}
+use Rattle.std.proofs.lemmas.List.{append-nil, length-map, take_all}
 use Rattle.std.proofs.lemmas.Nat.{from_le_bytes-to_le_bytes_2, from_le_bytes-to_le_bytes_4, from_le_bytes-to_le_bytes_8}
 use Rattle.std.specs.Int.{from_le_bytes, to_le_bytes}
 use Rattle.std.specs.Prelude.{Err, IfOk, Ok, OnOk, Result, if◌then◌else◌, ◌==◌}
@@ -79,9 +78,14 @@ slots_more calls call old a b new more was gate body is all =
     maps [] = refl
     maps (c ∷ cs) = ap (λ l. call_bytes c ∷ l) (maps cs)
 
+-- what is written first
+pub after_gate : (group : List ℕ) → take (length group - 1) (drop 1 group) ≡ drop 1 group
+after_gate group = take_all (length group - 1) (drop 1 group) (omega (arith, length-drop 1 group))
+
 -- the group that is written
-pub calls_group : (pending : List Logged) (old group : List ℕ) → old ≡ call_slots pending → group ≡ old ++ 0 ∷ [] → IsGroup group (map call_bytes pending)
-calls_group pending old group was is = record { is = is ∙ ap (λ l. l ++ 0 ∷ []) was; sizes = call_sizes pending }
+pub calls_group : (pending : List Logged) (old group : List ℕ) → 0 < length pending → old ≡ call_slots pending → group ≡ old ++ 0 ∷ [] → IsGroup 24 (drop 1 group) (map call_bytes pending)
+calls_group [] old group some was is = absurd (omega (arith, some))
+calls_group (call ∷ calls) old group some was is = record { is = ap (λ l. 1 ∷ drop 1 l) (is ∙ ap (λ l. l ++ 0 ∷ []) was); sizes = call_sizes (call ∷ calls) }
 
 pub group_size : (pending : List Logged) (old group : List ℕ) → old ≡ call_slots pending → group ≡ old ++ 0 ∷ [] → length group ≡ length pending * 25 + 1
 group_size pending old group was is = ap length is ∙ length-append old (0 ∷ []) ∙ ap (λ l. length l + 1) was ∙ ap (λ n. n + 1) (slots_size pending)
@@ -90,7 +94,7 @@ module _ (law : ReadsAll) (head : Head) (most kept : ℕ) (pending : List Logged
   pub adds_calls : (c : List ℕ) → open_slots 24 (most + 1) c ≡ open_slots 24 (most + 1) seen ++ map call_bytes pending → AddsCalls (kept_calls head most seen) (kept_calls head most c) pending
   adds_calls c opened calls was = ap (calls_of head) opened ∙ adds law head (open_slots 24 (most + 1) seen) calls pending (omega (arith, counts)) loggable was
 
-  pub keeps_calls : (calls : List Logged) (c : List ℕ) → kept_calls head most seen ≡ Ok calls → IsOldOrAll (most + 1) (open_slots 24 (most + 1) seen) (map call_bytes pending) c → KeepsCalls head most calls pending c
+  pub keeps_calls : (calls : List Logged) (c : List ℕ) → kept_calls head most seen ≡ Ok calls → IsOldOrAll 24 (most + 1) (open_slots 24 (most + 1) seen) (map call_bytes pending) c → KeepsCalls head most calls pending c
   keeps_calls calls c was (inl same) = inl (ap (calls_of head) same ∙ was)
   keeps_calls calls c was (inr all) = inr (adds_calls c all calls was)
 
@@ -127,15 +131,11 @@ no_slots [] none = refl
 no_slots (b ∷ bodies) none = absurd (omega (arith, none))
 
 -- the head's slot
-pub head_group : (head : Head) (old a b group : List ℕ) → old ≡ [] → a ≡ old ++ 1 ∷ [] → b ≡ a ++ head_bytes head → group ≡ b ++ 0 ∷ [] → IsGroup group (head_bytes head ∷ [])
+pub head_group : (head : Head) (old a b group : List ℕ) → old ≡ [] → a ≡ old ++ 1 ∷ [] → b ≡ a ++ head_bytes head → group ≡ b ++ 0 ∷ [] → IsGroup 24 (drop 1 group) (head_bytes head ∷ [])
 head_group head old a b group empty gate body is = record {
-  is = is ∙ ap (λ l. l ++ 0 ∷ []) (body ∙ ap (λ l. l ++ head_bytes head) (gate ∙ ap (λ l. l ++ 1 ∷ []) empty));
-  sizes = one;
+  is = ap (λ l. 1 ∷ drop 1 l) (is ∙ ap (λ l. l ++ 0 ∷ []) (body ∙ ap (λ l. l ++ head_bytes head) (gate ∙ ap (λ l. l ++ 1 ∷ []) empty)));
+  sizes = one_size 24 (head_bytes head) refl;
 }
-  where
-    one : All (λ body. length body ≡ 24) (head_bytes head ∷ [])
-    one zero d within = refl
-    one (suc k) d within = absurd (omega (arith, within))
 
 pub head_size : (head : Head) (old a b group : List ℕ) → old ≡ [] → a ≡ old ++ 1 ∷ [] → b ≡ a ++ head_bytes head → group ≡ b ++ 0 ∷ [] → length group ≡ 26
 head_size head old a b group empty gate body is = ap length (is ∙ ap (λ l. l ++ 0 ∷ []) (body ∙ ap (λ l. l ++ head_bytes head) (gate ∙ ap (λ l. l ++ 1 ∷ []) empty)))
@@ -149,7 +149,7 @@ module _ (head : Head) (most : ℕ) (seen : List ℕ) (good : head_fault head (h
   pub none_kept : (c : List ℕ) → open_slots 24 (most + 1) c ≡ open_slots 24 (most + 1) seen → LeavesNone head most c
   none_kept c same = ap (calls_of head) (same ∙ no_slots (open_slots 24 (most + 1) seen) counts)
 
-  pub begins : (c : List ℕ) → IsOldOrAll (most + 1) (open_slots 24 (most + 1) seen) (head_bytes head ∷ []) c → LeavesNone head most c
+  pub begins : (c : List ℕ) → IsOldOrAll 24 (most + 1) (open_slots 24 (most + 1) seen) (head_bytes head ∷ []) c → LeavesNone head most c
   begins c (inl same) = none_kept c same
   begins c (inr all) = begun c all
 
@@ -157,7 +157,7 @@ module _ (head : Head) (most : ℕ) (seen : List ℕ) (good : head_fault head (h
 pub found_calls : ReadsAll → (head : Head) (bodies : List (List ℕ)) (bytes : List ℕ) → IsRead head bodies bytes → calls_of head bodies ≡ Ok (calls_from bytes)
 found_calls law head bodies bytes read = read.are ∙ ap Ok (sym (ap calls_from read.is ∙ law read.calls read.loggable))
 
-pub old_or_same : (images : List ℕ → Type 0) (head : Head) (most : ℕ) (seen c : List ℕ) → IsOldOrSame images (most + 1) (open_slots 24 (most + 1) seen) c → LeavesOldOrSame images head most seen c
+pub old_or_same : (images : List ℕ → Type 0) (head : Head) (most : ℕ) (seen c : List ℕ) → IsOldOrSame images 24 (most + 1) (open_slots 24 (most + 1) seen) c → LeavesOldOrSame images head most seen c
 old_or_same images head most seen c (inl old) = inl old
 old_or_same images head most seen c (inr same) = inr (ap (calls_of head) same)
 
@@ -173,11 +173,11 @@ gate_first (suc most) (gate ∷ rest) some = by (cases_eq gate 1)
         let none : length (open_slots 24 (suc most) (gate ∷ rest)) ≡ 0 = ap length (kept_shut 24 (suc most) gate rest shut) in
         absurd (omega (arith, some, none))
 
-pub torn_first : (most : ℕ) (seen c : List ℕ) → 0 < length (open_slots 24 most seen) → Torn 0 1 seen c → IsOldOrSame (λ d. d ≡ seen) most [] c
+pub torn_first : (most : ℕ) (seen c : List ℕ) → 0 < length (open_slots 24 most seen) → Torn 0 1 seen c → IsOldOrSame (λ d. d ≡ seen) 24 most [] c
 torn_first most seen [] some torn = absurd (let was = gate_first most seen some in omega (arith, torn.no_shorter, ap length was.1))
 torn_first most seen (gate ∷ rest) some torn = by (cases_eq gate 1)
   where
-    by : (gate ≡ 1) ⊎ (gate ≢ 1) → IsOldOrSame (λ d. d ≡ seen) most [] (gate ∷ rest)
+    by : (gate ≡ 1) ⊎ (gate ≢ 1) → IsOldOrSame (λ d. d ≡ seen) 24 most [] (gate ∷ rest)
     by (inl is) =
         let was = gate_first most seen some in
         inl (ap (λ g. g ∷ rest) is ∙ ap (λ l. 1 ∷ l) (torn.after ∙ ap (λ l. drop 1 l) was.1) ∙ sym was.1)
@@ -197,11 +197,7 @@ pub of_ok : {U E : Type 0} (r : Result U E) (u : U) (P : U → Type 0) → r ≡
 of_ok (Ok v) u P is p = let same : v ≡ u = cc in subst P same p
 of_ok (Err e) u P is p = absurd (cc)
 
-pub on_ok : {U E : Type 0} (r : Result U E) (A B : Type 0) → OnOk r A → (A → B) → OnOk r B
-on_ok (Ok u) A B a f = f a
-on_ok (Err e) A B a f = tt
-
-pub same_or_new : (before head : Head) (most : ℕ) (seen c : List ℕ) → IsOldOrSame (λ d. d ≡ seen) (most + 1) [] c → IsSameOrNew before head most seen c
+pub same_or_new : (before head : Head) (most : ℕ) (seen c : List ℕ) → IsOldOrSame (λ d. d ≡ seen) 24 (most + 1) [] c → IsSameOrNew before head most seen c
 same_or_new before head most seen c (inl same) = inl (ap (kept_calls before most) same)
 same_or_new before head most seen c (inr none) = inr (ap (calls_of head) none)
 

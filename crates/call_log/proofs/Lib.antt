@@ -1,6 +1,3 @@
-mod Slots
 mod Reading
 mod Scanning
-mod Groups
-mod Shutting
 mod Keeping

@@ -3,8 +3,8 @@ use Rattle.call_log.specs.KeptCalls.{kept_calls}
 use Rattle.call_log.specs.declared.faults.LogFault.TheVariants.{Failed, NoMemory}
 use Rattle.call_log.specs.declared.faults.LogFault.{LogFault}
 use Rattle.call_log.specs.declared.heads.Head.{Head}
-use Rattle.home_journal.specs.Disks.{LeavesOnly}
-use Rattle.home_journal.specs.SlotFiles.{IsSettled, slots_of}
+use Rattle.slot_disks.specs.Disks.{LeavesOnly}
+use Rattle.slot_disks.specs.SlotFiles.{IsSettled, slots_of}
 use Rattle.logged_calls.specs.CallBytes.{call_bytes, call_size}
 use Rattle.logged_calls.specs.Calls.{IsLoggable}
 use Rattle.logged_calls.specs.declared.calls.Logged.{Logged}

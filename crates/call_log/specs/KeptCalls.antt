@@ -3,7 +3,7 @@ use Rattle.call_log.specs.Heads.{head_fault}
 use Rattle.call_log.specs.declared.faults.LogFault.TheVariants.{Damaged}
 use Rattle.call_log.specs.declared.faults.LogFault.{LogFault}
 use Rattle.call_log.specs.declared.heads.Head.{Head}
-use Rattle.home_journal.specs.Slots.{open_slots}
+use Rattle.slot_disks.specs.Slots.{open_slots}
 use Rattle.logged_calls.specs.CallBytes.{call_size, front_call}
 use Rattle.logged_calls.specs.declared.calls.Logged.{Logged}
 use Rattle.std.specs.Prelude.{Err, List, None, Ok, Option, Result, Some, [], ℕ, ◌+◌, ◌∷◌}

@@ -2,21 +2,20 @@
 ghost use Rattle.std.specs.Prelude.{◌≡◌, ◌+◌, ◌<◌, ◌≢◌, ◌≤◌, ◌++◌, [], ◌∷◌, Err, IfErr, IfOk, Ok, OnErr, OnOk, length, map, true, vec_capacity};
 ghost use Rattle.call_log.specs.CallLogs.{AddsCalls, IsOpenFile, LeavesCalls, LeavesNone, LeavesOldOrSame, LeavesSameOrNew, call_slots};
 ghost use Rattle.call_log.specs.KeptCalls.{kept_calls};
-ghost use Rattle.call_log.specs.LogFiles.{IsOldOrSame};
 ghost use Rattle.call_log.specs.declared.faults.LogFault.TheVariants.{Failed as DiskFailed, NoMemory as MemoryLacks};
-ghost use Rattle.home_journal.specs.Disks.{LeavesOnly};
-ghost use Rattle.home_journal.specs.SlotFiles.{IsSettled};
-ghost use Rattle.home_journal.specs.Slots.{open_slots};
+ghost use Rattle.slot_disks.specs.Disks.{LeavesOnly};
+ghost use Rattle.slot_disks.specs.SlotFiles.{IsOldOrSame, IsSettled};
+ghost use Rattle.slot_disks.specs.Slots.{open_slots};
 ghost use Rattle.logged_calls.specs.CallBytes.{call_size, calls_from};
 ghost use Rattle.logged_calls.specs.Calls.{HasCivilTime, IsLoggable};
 
 use crate::faults::LogFault;
 use crate::heads::Head;
-use crate::log_files::{prepare, write_group, write_synced};
+use crate::log_files::{prepare, write_slots};
 use day_clock::Failed;
-use home_journal::Disk;
 use home_types::{List, NoMemory};
 use logged_calls::{Logged, same_bytes};
+use slot_disks::{Disk, write_synced};
 use std::alloc::Global;
 
 /// How many bytes a slot has, with its gate.
@@ -91,7 +90,7 @@ fn write_head<Q: Disk>(
     group.push_reserved(1);
     put(group, &head.bytes());
     group.push_reserved(0);
-    let written = write_group(disk, most, 0, group.as_slice());
+    let written = write_slots(disk, most, 0, group.as_slice());
     group.clear();
     written
 }
@@ -161,7 +160,7 @@ pub(crate) fn write_calls<Q: Disk>(
     }
     same_bytes();
     group.push_reserved(0);
-    write_group(disk, most, u64::from(kept) + 1, group.as_slice())?;
+    write_slots(disk, most, u64::from(kept) + 1, group.as_slice())?;
     group.clear();
     Ok(())
 }
@@ -174,7 +173,7 @@ fn shut_first<Q: Disk>(disk: &mut Q, most: u32, kept: u32) -> Result<(), Failed>
     ensures settled { Q.told ≡ true → OnOk result
         (IsSettled call_size (most + 1) 0 (Q.seen disk.new) (Q.images disk.new)) }
     ensures any_moment { Q.told ≡ true → LeavesOnly Q.moment Q.images_since disk.old disk.new
-        (IsOldOrSame (λ c. c ≡ Q.seen disk.old) (most + 1) []) }
+        (IsOldOrSame (λ c. c ≡ Q.seen disk.old) call_size (most + 1) []) }
     ensures later { Q.faults disk.old ≤ Q.faults disk.new }
     ensures failed { OnErr result (Q.faults disk.old < Q.faults disk.new) }
 {

@@ -2,7 +2,7 @@
 ghost use Rattle.std.specs.Prelude.{◌≡◌, ◌+◌, ◌<◌, ◌≢◌, ◌≤◌, ◌++◌, [], ◌∷◌, IfErr, IfOk, Ok, OnErr, OnOk, length, true};
 ghost use Rattle.call_log.specs.CallLogs.{AddsCalls, FindsAll, IsAppended, IsBegun, IsLetOut, IsRefused, IsSameOrNew, IsSyncedFrom, KnowsCalls, LeavesCalls, LeavesOldOrSame, LogState, calls_kept, disk_of, drive_held, opened_disk, report_held};
 ghost use Rattle.call_log.specs.KeptCalls.{kept_calls};
-ghost use Rattle.home_journal.specs.Disks.{LeavesOnly, LeavesThis};
+ghost use Rattle.slot_disks.specs.Disks.{LeavesOnly, LeavesThis};
 ghost use Rattle.logged_calls.specs.CallBytes.{calls_from};
 ghost use Rattle.logged_calls.specs.Calls.{HasCivilTime};
 
@@ -10,9 +10,9 @@ use crate::call_files::{add_call, open_file, restart, write_calls};
 use crate::faults::LogFault;
 use crate::heads::Head;
 use day_clock::Failed;
-use home_journal::Disk;
 use home_types::{List, NoMemory};
 use logged_calls::{CALL_SIZE, Logged};
+use slot_disks::Disk;
 use std::alloc::Global;
 use std::marker::Model;
 use std::snapshot::Snapshot;

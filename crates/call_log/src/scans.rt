@@ -1,22 +1,17 @@
 //! What the file of a log holds.
 ghost use Rattle.std.specs.Prelude.{◌≡◌, ◌+◌, ◌≢◌, ◌≤◌, [], Err, IfErr, IfOk, OnOk, length, take};
 ghost use Rattle.call_log.specs.KeptCalls.{kept_calls};
-ghost use Rattle.call_log.specs.LogFiles.{IsFound, IsRead, ReadsOn, RefusesAt};
+ghost use Rattle.call_log.specs.LogFiles.{IsRead, ReadsOn, RefusesAt};
 ghost use Rattle.call_log.specs.declared.faults.LogFault.TheVariants.{Failed, NoMemory};
 ghost use Rattle.logged_calls.specs.CallBytes.{call_size};
-ghost use Rattle.home_journal.specs.Slots.{open_slots};
+ghost use Rattle.slot_disks.specs.SlotFiles.{IsFound};
+ghost use Rattle.slot_disks.specs.Slots.{open_slots};
 
 use crate::faults::LogFault;
 use crate::heads::Head;
 use home_types::List;
 use logged_calls::{CALL_SIZE, read_call, write_call};
-
-/// How many slots are open, and whether a gate that is not open stands after them.
-#[derive(Clone, Copy)]
-pub(crate) struct Found {
-    pub(crate) count: u64,
-    pub(crate) is_shut: bool,
-}
+use slot_disks::Found;
 
 /// Reads the slots that are open, one after another: the head, and then the calls, whose bytes are
 /// appended to `calls`.
@@ -27,7 +22,7 @@ pub(crate) fn scan(
     calls: &mut List<u8>,
 ) -> Result<Found, LogFault>
     requires fresh { calls.old.items ≡ [] }
-    ensures found { IfOk result (λ found. IsFound (most + 1) bytes.now found) }
+    ensures found { IfOk result (λ found. IsFound call_size (most + 1) bytes.now found) }
     ensures read { OnOk result
         (IsRead head (open_slots call_size (most + 1) bytes.now) calls.new.items) }
     ensures refused { IfErr result

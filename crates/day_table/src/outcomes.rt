@@ -2,9 +2,9 @@
 use crate::cases::{Before, Behaviour, Case, copy_of};
 use day_clock::{BytesSink, BytesSource, Source};
 use device_states::{Device, SimBench};
-use home_journal::{Disk, MemoryDisk};
 use home_types::{Bytes, List, NoMemory};
 use hub_commands::{Finish, keep_command, still_command};
+use slot_disks::{Disk, MemoryDisk};
 use std::alloc::{AllocError, Global};
 use std::fmt::Write as _;
 use std::io::{self, Write};

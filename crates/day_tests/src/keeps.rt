@@ -3,9 +3,9 @@
 use crate::runs::{LIGHT, streams};
 use day_clock::BytesSink;
 use device_states::SimBench;
-use home_journal::MemoryDisk;
 use home_types::{Bytes, NoMemory};
 use hub_commands::{Fault, keep_command};
+use slot_disks::MemoryDisk;
 use std::alloc::Global;
 use std::test::*;
 

@@ -1,7 +1,7 @@
 -- From open slots to the states that they tell.
 use Rattle.home_journal.proofs.Scanning.{if_kept}
 use Rattle.home_journal.proofs.StateBytes.{last_pushed, round_trip, states_push}
-use Rattle.home_journal.proofs.Prelude.{All, IsBeforeOrAfter, IsStateOf, KeepsFirst, Kind, KnowsKept, List, Ok, Option, Stand, [], ap, append-nil, arith, body_size, inl, inr, kept_states, last_kept, length, length-append, open_slots, slot_state, state_bytes, states_from, sym, ℕ, ◌++◌, ◌+◌, ◌<◌, ◌^◌, ◌∙◌, ◌∷◌, ◌≡◌, ◌≤◌}
+use Rattle.home_journal.proofs.Prelude.{All, IsOldOrAll, IsStateOf, KeepsFirst, Kind, KnowsKept, List, Ok, Option, Stand, [], ap, append-nil, arith, body_size, inl, inr, kept_states, last_kept, length, length-append, open_slots, slot_state, state_bytes, states_from, sym, ℕ, ◌++◌, ◌+◌, ◌<◌, ◌^◌, ◌∙◌, ◌∷◌, ◌≡◌, ◌≤◌}
 use Rattle.home_types.specs.Limits.{most_devices, most_windows}
 
 -- the same open slots tell the same states
@@ -31,7 +31,7 @@ module _ (kinds : List Kind) (size most count : ℕ) (seen : List ℕ) (home : L
       ∙ states_push kinds (open_slots size most seen) (state_bytes (count + 1) home) homes home told
       (ap (λ n. slot_state kinds n (state_bytes (count + 1) home)) number ∙ round_trip kinds (count + 1) home (omega (arith, is.next, is.windows)) (omega (arith, is.devices)) is.of_kinds is.small)
 
-  pub keeps_first : (c : List ℕ) → IsBeforeOrAfter size most (open_slots size most seen) (state_bytes (count + 1) home) c → KeepsFirst kinds most homes (home ∷ []) c
+  pub keeps_first : (c : List ℕ) → IsOldOrAll size most (open_slots size most seen) (state_bytes (count + 1) home ∷ []) c → KeepsFirst kinds most homes (home ∷ []) c
   keeps_first c (inl same) = (0, same_states kinds size most c seen is.sized same ∙ kept ∙ ap Ok (sym (append-nil homes)))
   keeps_first c (inr same) = (1, keeps_next c same)
 

@@ -1,16 +1,15 @@
 -- What many proofs of this crate cite, passed on from one place.
-pub use Rattle.home_journal.specs.Disks.{Holds, LeavesOnly, LeavesThis, Torn}
 pub use Rattle.home_journal.specs.Journals.{IsStateOf, JournalState, KeepsFirst, KnowsKept, LeavesFirst, last_kept, last_kept_home, states_kept}
 pub use Rattle.home_journal.specs.KeptStates.{kept_states, states_from, with_first}
-pub use Rattle.home_journal.specs.MemoryDisks.{CrashMayLeave, MemoryState, images_of}
-pub use Rattle.home_journal.specs.SlotFiles.{AreSlots, IsBeforeOrAfter, IsFound, IsSettled, slots_of}
-pub use Rattle.home_journal.specs.Slots.{body_size, is_to_shut, open_slots, slot_state, stand_bytes, stands_of, state_bytes, with_shut_gate, with_slot}
-pub use Rattle.home_journal.specs.declared.scans.Found.{Found}
+pub use Rattle.home_journal.specs.Slots.{body_size, slot_state, stand_bytes, stands_of, state_bytes, with_slot}
 pub use Rattle.home_types.specs.HomeStates.{stand_at}
 pub use Rattle.home_types.specs.Kinds.{has_value, kind_at}
 pub use Rattle.home_types.specs.declared.kinds.Kind.{Kind}
 pub use Rattle.home_types.specs.declared.kinds.Kind.TheVariants.{States}
 pub use Rattle.home_types.specs.declared.worlds.Stand.{Stand}
+pub use Rattle.slot_disks.specs.Disks.{LeavesOnly}
+pub use Rattle.slot_disks.specs.SlotFiles.{IsFound, IsGroup, IsOldOrAll}
+pub use Rattle.slot_disks.specs.Slots.{is_to_shut, open_slots, with_group}
 pub use Rattle.std.proofs.Common.{All, List, [], ap, append_assoc, arith, drop, false, get_or, inl, inr, length, length-append, length-drop, map, min, refl, rules, subst, suc, suc-mul, sym, take, take-append-drop, true, true≢false, vec_capacity, w16, w32, zero, ℕ, ⊎_elim, ◌*◌, ◌++◌, ◌+◌, ◌<◌, ◌^◌, ◌∙◌, ◌∷◌, ◌≡◌, ◌≢◌, ◌≤◌, ◌⊎◌}
 pub use Rattle.std.proofs.lemmas.Bool.Decides.{nat_tests}
 pub use Rattle.std.proofs.lemmas.Grind.{common_steps}

@@ -1,15 +1,6 @@
 -- The states that slots tell: the bytes of a state are read as it, and so are one more and the first that is not good.
-use Rattle.home_journal.proofs.Prelude.{All, All-more, Bool, Err, IsStateOf, Kind, List, None, Ok, Option, Result, Some, Stand, States, [], ap, append-nil, append_assoc, arith, body_size, common_steps, drop, drop_all, drop_more, false, flat_map, flat_map_more, from_le_bytes, from_le_bytes-to_le_bytes_2, from_le_bytes-to_le_bytes_4, get_or, has_value, if◌then◌else◌, inl, inr, is_ok, kind_at, last_kept_home, length, length-append, nat_le, nat_tests, option_map, refl, set, slice_get, slot_state, stand_at, stand_bytes, stands_of, state_bytes, states_from, suc, sym, take, take_all, take_more, take_more_set, to_le_bytes, true, true≢false, w16, w32, with_first, ℕ, ◌&&◌, ◌*◌, ◌++◌, ◌+◌, ◌-◌, ◌<◌, ◌==◌, ◌^◌, ◌∙◌, ◌∷◌, ◌≡◌, ◌≤◌, ◌⊎◌}
-
-pub if_both : {X : Type 0} (a b : Bool) (x y : X) → a ≡ true → b ≡ true → (if a && b then x else y) ≡ x
-if_both a b x y p q = grind (arith, common_steps)
-
-pub if_not_first : {X : Type 0} (a b : Bool) (x y : X) → a ≡ false → (if a && b then x else y) ≡ y
-if_not_first a b x y p = grind (arith, common_steps)
-
-pub if_not_second : {X : Type 0} (a b : Bool) (x y : X) → b ≡ false → (if a && b then x else y) ≡ y
-if_not_second true b x y q = grind (arith, common_steps)
-if_not_second false b x y q = refl
+use Rattle.slot_disks.proofs.Cited.{if_both, if_not_first, if_not_second, one_size}
+use Rattle.home_journal.proofs.Prelude.{All, All-more, Bool, Err, IsStateOf, Kind, List, None, Ok, Option, Result, Some, Stand, States, [], ap, append-nil, append_assoc, arith, body_size, common_steps, drop, drop_all, drop_more, false, flat_map, flat_map_more, from_le_bytes, from_le_bytes-to_le_bytes_2, from_le_bytes-to_le_bytes_4, get_or, has_value, if◌then◌else◌, inl, inr, is_ok, kind_at, last_kept_home, length, length-append, nat_le, nat_tests, option_map, refl, set, slice_get, slot_state, stand_at, stand_bytes, stands_of, state_bytes, states_from, suc, sym, take, take_all, take_more, take_more_set, to_le_bytes, true, true≢false, w16, w32, with_first, ℕ, ◌&&◌, ◌*◌, ◌++◌, ◌+◌, ◌-◌, ◌<◌, ◌==◌, ◌^◌, ◌∙◌, ◌∷◌, ◌≡◌, ◌≤◌, ◌⊎◌, IsGroup, with_group, with_slot, mul-le, suc-mul}
 
 -- what a byte says of a device, and back
 up_byte : (up : Bool) → ((if up then 1 else 0) == 1) ≡ up
@@ -60,6 +51,26 @@ small_more home i d within small all = All-more (λ s. s.value < 2 ^ 32) home i 
 -- how many bytes tell a state
 pub state_size : (number : ℕ) (home : List Stand) → length (state_bytes number home) ≡ body_size (length home)
 state_size number home = omega (arith, stands_size home)
+
+-- the slot of a state, as a group of one
+pub state_group : (number : ℕ) (home : List Stand) (size : ℕ) (slot : List ℕ) → size ≡ body_size (length home) → slot ≡ state_bytes number home ++ 0 ∷ [] → IsGroup size slot (state_bytes number home ∷ [])
+state_group number home size slot sized is = record {
+  is = ap (λ l. 1 ∷ l) (is ∙ ap (λ l. l ++ 0 ∷ []) (sym (append-nil (state_bytes number home))));
+  sizes = one_size size (state_bytes number home) (state_size number home ∙ sym sized);
+}
+
+-- the file that a group of one slot makes
+pub slot_written : (at : ℕ) (body slot old : List ℕ) → slot ≡ body ++ 0 ∷ [] → with_group at slot old ≡ with_slot at body old
+slot_written at body slot old is =
+    ap (λ l. with_group at l old) is
+    ∙ ap (λ n. take at old ++ 1 ∷ ((body ++ 0 ∷ []) ++ drop n old)) (omega (arith, length-append body (0 ∷ [])))
+    ∙ ap (λ l. take at old ++ 1 ∷ l) (append_assoc body (0 ∷ []) (drop (at + length body + 2) old))
+
+-- one slot more has room
+pub slot_fits : (count most size : ℕ) → count < most → count * (size + 1) + (size + 1) ≤ most * (size + 1)
+slot_fits count most size next =
+    let fits = mul-le (suc count) (size + 1) most (size + 1) (omega (arith, next)) (omega arith) in
+    omega (arith, fits, suc-mul count (size + 1))
 
 -- what is read of a state's bytes is the state
 pub round_trip : (kinds : List Kind) (number : ℕ) (home : List Stand) → number < 2 ^ 32 → length kinds < 2 ^ 16 → IsStateOf kinds home → All (λ s. s.value < 2 ^ 32) home

@@ -1,13 +1,16 @@
 -- What a journal keeps, and what a crash leaves of it.
-use Rattle.home_journal.specs.Disks.{LeavesOnly}
+use Rattle.slot_disks.specs.Disks.{LeavesOnly}
 use Rattle.home_journal.specs.KeptStates.{kept_states}
 use Rattle.home_journal.specs.declared.journals.OpenFault.TheVariants.{Damaged, Failed, NoMemory}
 use Rattle.home_journal.specs.declared.journals.OpenFault.{OpenFault}
+use Rattle.home_journal.specs.Slots.{body_size}
 use Rattle.home_types.specs.HomeStates.{stand_at}
 use Rattle.home_types.specs.Kinds.{has_value, kind_at}
+use Rattle.home_types.specs.Limits.{most_devices, most_windows}
 use Rattle.home_types.specs.declared.kinds.Kind.{Kind}
 use Rattle.home_types.specs.declared.worlds.Stand.{Stand}
-use Rattle.std.specs.Prelude.{Err, List, None, Ok, Option, Result, Some, length, if◌then◌else◌, slice_get, take, true, ℕ, ⊤, ◌++◌, ◌-◌, ◌<◌, ◌==◌, ◌≡◌, ◌⊎◌}
+use Rattle.slot_disks.specs.SlotFiles.{IsSettled}
+use Rattle.std.specs.Prelude.{Bool, Err, List, None, Ok, Option, Result, Some, length, if◌then◌else◌, slice_get, take, true, ℕ, ⊤, ◌++◌, ◌-◌, ◌<◌, ◌==◌, ◌≡◌, ◌≤◌, ◌⊎◌}
 
 -- what a contract sees of a journal: its disk, the kinds of the devices, how many states it keeps
 -- at most, how many it keeps, and the last of them
@@ -80,3 +83,18 @@ abbrev pub IsDamage : OpenFault → Result (List (List Stand)) ℕ → List ℕ 
 IsDamage (Damaged place) kept old new = (kept ≡ Err place) × (new ≡ old)
 IsDamage Failed kept old new = ⊤
 IsDamage NoMemory kept old new = ⊤
+
+-- a file of slots is open, of a home with devices of these kinds, and the last state that it keeps
+-- is known
+pub record IsOpen (kinds : List Kind) (size most count : ℕ) (last : List Stand) (room : ℕ)
+    (told : Bool) (seen : List ℕ)
+    (images : List ℕ → Type 0) : Type 0 where
+  pub sized : size ≡ body_size (length kinds)
+  pub devices : length kinds ≤ most_devices
+  pub windows : most ≤ most_windows
+  pub few : count ≤ most
+  pub roomy : size < room
+  pub blank : length last ≡ length kinds
+  pub of_kinds : 0 < count → IsStateOf kinds last
+  pub settled : told ≡ true → IsSettled size most count seen images
+  pub knows : told ≡ true → KnowsKept kinds most seen count (last_kept count last)

@@ -1,7 +1,8 @@
 -- The states of a home that a journal's file keeps.
-use Rattle.home_journal.specs.Slots.{body_size, open_slots, slot_state}
+use Rattle.home_journal.specs.Slots.{body_size, slot_state}
 use Rattle.home_types.specs.declared.kinds.Kind.{Kind}
 use Rattle.home_types.specs.declared.worlds.Stand.{Stand}
+use Rattle.slot_disks.specs.Slots.{open_slots}
 use Rattle.std.specs.Prelude.{Err, List, None, Ok, Option, Result, Some, [], length, ℕ, ◌+◌, ◌∷◌}
 
 -- these states with one in front, where there is one; else the slot with this place, counted from

@@ -1,5 +1,4 @@
--- The slots of a journal's file: a gate byte each, and behind it the bytes that tell one state of
--- the home.
+-- What the slots of a journal's file hold: the bytes that tell one state of the home each.
 use Rattle.home_types.specs.Kinds.{has_value}
 use Rattle.home_types.specs.declared.kinds.Kind.{Kind}
 use Rattle.home_types.specs.declared.worlds.Stand.{Stand}
@@ -11,15 +10,6 @@ use Rattle.std.specs.Prelude.{Bool, List, None, Option, Some, [], drop, if◌the
 -- how many bytes stand behind a gate in the file of a home with so many devices
 abbrev pub body_size : ℕ → ℕ
 body_size devices = 6 + 5 * devices
-
--- what stands behind the gates of the slots before the first that is not open, at most so many. A
--- slot is open where its gate is 1 and the gate behind it is there
-abbrev pub open_slots : ℕ → ℕ → List ℕ → List (List ℕ)
-open_slots size zero bytes = []
-open_slots size (suc most) [] = []
-open_slots size (suc most) (gate ∷ rest) =
-    if (gate == 1) && nat_lt size (length rest)
-    then take size rest ∷ open_slots size most (drop size rest) else []
 
 -- where a device stands, as bytes: its value, and 1 for up and 0 for down
 abbrev pub stand_bytes : Stand → List ℕ
@@ -50,20 +40,6 @@ slot_state kinds number (a ∷ b ∷ c ∷ d ∷ e ∷ f ∷ rest) =
     then stands_of kinds rest
     else None
 slot_state kinds number bytes = None
-
--- a gate that is missing or open is to be shut
-abbrev pub is_to_shut : Option ℕ → Bool
-is_to_shut None = true
-is_to_shut (Some gate) = gate == 1
-
--- the file once it was opened: where one slot more may be opened, and its gate is to be shut, that
--- gate is 0
-abbrev pub with_shut_gate : ℕ → ℕ → List ℕ → List ℕ
-with_shut_gate size most bytes =
-    let at = length (open_slots size most bytes) * (size + 1) in
-    if nat_lt (length (open_slots size most bytes)) most && is_to_shut (slice_get bytes at)
-    then take at bytes ++ 0 ∷ drop (at + 1) bytes
-    else bytes
 
 -- the file once one slot more is kept: this stands behind an open gate at this place, and behind it
 -- a gate that is shut

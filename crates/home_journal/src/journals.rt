@@ -1,20 +1,23 @@
 //! A journal: the states of a home after its windows, on a disk.
 ghost use Rattle.std.specs.Prelude.{◌≡◌, ◌+◌, ◌*◌, ◌<◌, ◌≤◌, [], ◌∷◌, All, IfErr, IfOk, IfSome, IsSome, Some, length, map, option_map, true, vec_capacity, vec_len, ◌↔◌};
-ghost use Rattle.home_journal.specs.Disks.{LeavesThis};
 ghost use Rattle.home_journal.specs.Journals.{AddsStates, IsDamage, IsStateOf, JournalState, KnowsKept, LeavesFirst, LeavesOldOrSame, disk_of, states_kept};
 ghost use Rattle.home_journal.specs.KeptStates.{kept_states};
-ghost use Rattle.home_journal.specs.Slots.{body_size, state_bytes, with_shut_gate, with_slot};
+ghost use Rattle.home_journal.specs.Slots.{body_size, state_bytes, with_slot};
 ghost use Rattle.home_types.specs.Limits.{most_devices, most_windows};
+ghost use Rattle.slot_disks.specs.Disks.{LeavesThis};
+ghost use Rattle.slot_disks.specs.Slots.{with_shut_gate};
 
-use crate::disks::Disk;
-use crate::layouts::Layout;
 use crate::slot_files::{prepare, write_slot};
-use crate::states::{blank_state, copy_state};
+use crate::states::{blank_state, copy_state, layout_of};
 use day_clock::Failed;
 use home_types::{Kind, List, NoMemory, World};
+use slot_disks::{Disk, Layout};
 use std::alloc::Global;
 use std::marker::Model;
 use std::snapshot::Snapshot;
+
+/// The name of the file in which the program keeps its journal.
+pub const FILE_NAME: &str = "home.journal";
 
 /// The states of a home, one for each window that was closed, all of them on the disk.
 #[derive(Drop)]
@@ -32,8 +35,7 @@ pub struct Journal<Q: Disk> {
 
 impl<Q: Disk> Model for Journal<Q> {
     ghost use Rattle.std.specs.Prelude.{vec_capacity};
-    ghost use Rattle.home_journal.specs.Journals.{JournalState, last_kept};
-    ghost use Rattle.home_journal.specs.SlotFiles.{IsOpen};
+    ghost use Rattle.home_journal.specs.Journals.{IsOpen, JournalState, last_kept};
 
     ghost Value = { JournalState Q };
 
@@ -94,7 +96,7 @@ impl<Q: Disk> Journal<Q> {
         ensures any_moment { Q.told ≡ true → LeavesOldOrSame Q.seen Q.images Q.moment Q.images_since
             kinds.now.items most disk (disk_of result) }
     {
-        let layout = Layout::of(kinds.len(), most);
+        let layout = layout_of(kinds.len(), most);
         let Ok(room) = take_room(alloc, layout, kinds.len()) else {
             return Err((disk, OpenFault::NoMemory));
         };
@@ -267,7 +269,7 @@ fn take_room(alloc: Global, layout: Layout, devices: u64) -> Result<Room, NoMemo
     let Ok(slot) = Vec::with_capacity(alloc, layout.size as usize + 1) else {
         return Err(NoMemory);
     };
-    let Ok(block) = vec![in alloc; 0u8; layout.bytes()] else {
+    let Ok(block) = vec![in alloc; 0u8; layout.bytes() as usize] else {
         return Err(NoMemory);
     };
     Ok(Room { slot, block, last })

@@ -2,20 +2,13 @@
 ghost use Rattle.std.specs.Prelude.{◌≡◌, ◌≤◌, IfErr, IfOk, Err, length};
 ghost use Rattle.home_journal.specs.Journals.{KnowsKept, last_kept};
 ghost use Rattle.home_journal.specs.KeptStates.{kept_states};
-ghost use Rattle.home_journal.specs.SlotFiles.{IsFound};
 ghost use Rattle.home_journal.specs.Slots.{body_size};
 ghost use Rattle.home_types.specs.Limits.{most_devices, most_windows};
+ghost use Rattle.slot_disks.specs.SlotFiles.{IsFound};
 
-use crate::layouts::Layout;
 use crate::states::read_state;
 use home_types::{Kind, World};
-
-/// How many slots are open, and whether a gate that is not open stands behind them.
-#[derive(Clone, Copy)]
-pub(crate) struct Found {
-    pub(crate) count: u32,
-    pub(crate) is_shut: bool,
-}
+use slot_disks::{Found, Layout};
 
 /// Reads the slots that are open, one after another; the state of the last one is in `last` then.
 /// Answers the place of the first that is not good, where there is one.
@@ -57,8 +50,8 @@ pub(crate) fn scan(
                 is_shut: false,
             });
         }
-        if !read_state(&behind[..size], place + 1, kinds, last) {
-            return Err(place);
+        if !read_state(&behind[..size], place as u32 + 1, kinds, last) {
+            return Err(place as u32);
         }
         rest = &behind[size..];
     }

@@ -1,18 +1,18 @@
 //! A file of slots on a disk: how it is opened, and how one slot more is kept.
 ghost use Rattle.std.specs.Prelude.{◌≡◌, ◌+◌, ◌*◌, ◌<◌, ◌^◌, ◌≤◌, ◌++◌, [], ◌∷◌, All, Err, IfErr, IfOk, OnErr, OnOk, length, take, true, vec_capacity};
-ghost use Rattle.home_journal.specs.Disks.{Holds, LeavesOnly, LeavesThis, Torn};
 ghost use Rattle.home_journal.specs.Journals.{IsStateOf, KnowsKept, last_kept};
 ghost use Rattle.home_journal.specs.KeptStates.{kept_states};
-ghost use Rattle.home_journal.specs.SlotFiles.{IsBeforeOrAfter, IsFound, IsOldOrSame, IsSettled, ReadsBytes, slots_in};
-ghost use Rattle.home_journal.specs.Slots.{body_size, state_bytes, with_shut_gate, with_slot};
+ghost use Rattle.home_journal.specs.Slots.{body_size, state_bytes, with_slot};
 ghost use Rattle.home_types.specs.Limits.{most_devices, most_windows};
+ghost use Rattle.slot_disks.specs.Disks.{LeavesOnly, LeavesThis};
+ghost use Rattle.slot_disks.specs.SlotFiles.{IsOldOrAll, IsOldOrSame, IsSettled, ReadsBytes};
+ghost use Rattle.slot_disks.specs.Slots.{open_slots, with_shut_gate};
 
-use crate::disks::Disk;
-use crate::layouts::Layout;
-use crate::scans::{Found, scan};
+use crate::scans::scan;
 use crate::states::fill_slot;
 use day_clock::Failed;
 use home_types::{Kind, Stand, World};
+use slot_disks::{Disk, Layout, front_of, length_of, shut_gate, sync_first, write_group};
 
 /// Syncs, reads the file into `block`, which has room for all slots, and shuts the gate behind
 /// those that are open. Answers how many they are, or which is the first that is not good; the
@@ -41,13 +41,13 @@ pub(crate) fn prepare<Q: Disk>(
     ensures unwritten { Q.told ≡ true
         → IfOk result (λ found. IfErr found (λ _. Q.seen disk.new ≡ Q.seen disk.old)) }
     ensures same { Q.told ≡ true → IfOk result
-        (λ found. slots_in layout (Q.seen disk.new) ≡ slots_in layout (Q.seen disk.old)) }
+        (λ found. open_slots layout.size layout.most (Q.seen disk.new) ≡ open_slots layout.size layout.most (Q.seen disk.old)) }
     ensures blank { length last.new.devices.items ≡ length kinds.now }
     ensures of_kinds { IfOk result
         (λ found. IfOk found (λ count. 0 < count → IsStateOf kinds.now last.new.devices.items)) }
     ensures any_moment { Q.told ≡ true
         → LeavesOnly Q.moment Q.images_since disk.old disk.new (IsOldOrSame (Q.images disk.old)
-        layout.size layout.most (slots_in layout (Q.seen disk.old))) }
+        layout.size layout.most (open_slots layout.size layout.most (Q.seen disk.old))) }
     ensures later { Q.faults disk.old ≤ Q.faults disk.new }
     ensures failed { OnErr result (Q.faults disk.old < Q.faults disk.new) }
 {
@@ -55,7 +55,7 @@ pub(crate) fn prepare<Q: Disk>(
     match scan(&block[..count], layout, kinds, last) {
         Ok(found) => {
             shut_gate(disk, layout, found)?;
-            Ok(Ok(found.count))
+            Ok(Ok(found.count as u32))
         }
         Err(place) => Ok(Err(place)),
     }
@@ -81,71 +81,6 @@ fn load<Q: Disk>(disk: &mut Q, block: &mut [u8]) -> Result<usize, Failed>
     front_of(disk, block)
 }
 
-// Syncs.
-fn sync_first<Q: Disk>(disk: &mut Q) -> Result<(), Failed>
-    ensures reads { Q.told ≡ true
-        → ReadsBytes Q.seen Q.images Q.moment Q.images_since disk.old disk.new }
-    ensures durable { Q.told ≡ true
-        → OnOk result (LeavesThis (Q.seen disk.new) (Q.images disk.new)) }
-    ensures later { Q.faults disk.old ≤ Q.faults disk.new }
-    ensures failed { OnErr result (Q.faults disk.old < Q.faults disk.new) }
-{
-    disk.sync()
-}
-
-// How many bytes there are. Asks that a crash leaves them.
-fn length_of<Q: Disk>(disk: &mut Q) -> Result<u64, Failed>
-    requires durable { Q.told ≡ true → LeavesThis (Q.seen disk.old) (Q.images disk.old) }
-    ensures reads { Q.told ≡ true
-        → ReadsBytes Q.seen Q.images Q.moment Q.images_since disk.old disk.new }
-    ensures size { Q.told ≡ true → IfOk result (λ n. n ≡ length (Q.seen disk.old)) }
-    ensures durable { Q.told ≡ true → LeavesThis (Q.seen disk.new) (Q.images disk.new) }
-    ensures later { Q.faults disk.old ≤ Q.faults disk.new }
-    ensures failed { OnErr result (Q.faults disk.old < Q.faults disk.new) }
-{
-    disk.len()
-}
-
-// Reads from the front on, as much as is there and fits. Asks that a crash leaves what is read.
-fn front_of<Q: Disk>(disk: &mut Q, block: &mut [u8]) -> Result<usize, Failed>
-    requires durable { Q.told ≡ true → LeavesThis (Q.seen disk.old) (Q.images disk.old) }
-    ensures fits { IfOk result (λ n. n ≤ length block.new) }
-    ensures bytes { Q.told ≡ true
-        → IfOk result (λ n. take n block.new ≡ take (length block.old) (Q.seen disk.old)) }
-    ensures reads { Q.told ≡ true
-        → ReadsBytes Q.seen Q.images Q.moment Q.images_since disk.old disk.new }
-    ensures durable { Q.told ≡ true → LeavesThis (Q.seen disk.new) (Q.images disk.new) }
-    ensures later { Q.faults disk.old ≤ Q.faults disk.new }
-    ensures failed { OnErr result (Q.faults disk.old < Q.faults disk.new) }
-{
-    disk.read(0, block)
-}
-
-// Shuts the gate behind the open slots, where it is not there or is open. Where all are open
-// nothing is written.
-fn shut_gate<Q: Disk>(disk: &mut Q, layout: Layout, found: Found) -> Result<(), Failed>
-    requires size { layout.size ≤ body_size most_devices }
-    requires windows { layout.most ≤ most_windows }
-    requires few { found.count ≤ layout.most }
-    requires found { Q.told ≡ true → IsFound layout.size layout.most (Q.seen disk.old) found }
-    requires durable { Q.told ≡ true → LeavesThis (Q.seen disk.old) (Q.images disk.old) }
-    ensures settled { Q.told ≡ true → OnOk result
-        (IsSettled layout.size layout.most found.count (Q.seen disk.new) (Q.images disk.new)) }
-    ensures same { Q.told ≡ true
-        → OnOk result (slots_in layout (Q.seen disk.new) ≡ slots_in layout (Q.seen disk.old)) }
-    ensures shut { Q.told ≡ true
-        → OnOk result (Q.seen disk.new ≡ with_shut_gate layout.size layout.most (Q.seen disk.old)) }
-    ensures any_moment { Q.told ≡ true → LeavesOnly Q.moment Q.images_since disk.old disk.new
-        (λ c. slots_in layout c ≡ slots_in layout (Q.seen disk.old)) }
-    ensures later { Q.faults disk.old ≤ Q.faults disk.new }
-    ensures failed { OnErr result (Q.faults disk.old < Q.faults disk.new) }
-{
-    if found.is_shut || found.count >= layout.most {
-        return Ok(());
-    }
-    write_synced(disk, layout.gate_of(found.count), &[0])
-}
-
 /// Keeps the state in the next slot: writes what stands behind its gate, with a gate that is not
 /// open behind that, and opens its gate once that is on the disk. Takes no memory.
 pub(crate) fn write_slot<Q: Disk>(
@@ -162,39 +97,20 @@ pub(crate) fn write_slot<Q: Disk>(
     requires devices { length home.now ≤ most_devices }
     requires windows { layout.most ≤ most_windows }
     requires room { layout.size < vec_capacity slot.old }
-    ensures kept { Q.told ≡ true → OnOk result (slots_in layout (Q.seen disk.new)
-        ≡ slots_in layout (Q.seen disk.old) ++ state_bytes (count + 1) home.now ∷ []) }
+    ensures kept { Q.told ≡ true → OnOk result (open_slots layout.size layout.most (Q.seen disk.new)
+        ≡ open_slots layout.size layout.most (Q.seen disk.old) ++ state_bytes (count + 1) home.now ∷ []) }
     ensures written { Q.told ≡ true → OnOk result (Q.seen disk.new ≡ with_slot
         (count * (layout.size + 1)) (state_bytes (count + 1) home.now) (Q.seen disk.old)) }
     ensures settled { Q.told ≡ true → OnOk result
         (IsSettled layout.size layout.most (count + 1) (Q.seen disk.new) (Q.images disk.new)) }
     ensures any_moment { Q.told ≡ true
-        → LeavesOnly Q.moment Q.images_since disk.old disk.new (IsBeforeOrAfter layout.size
-        layout.most (slots_in layout (Q.seen disk.old)) (state_bytes (count + 1) home.now)) }
+        → LeavesOnly Q.moment Q.images_since disk.old disk.new (IsOldOrAll layout.size
+        layout.most (open_slots layout.size layout.most (Q.seen disk.old)) (state_bytes (count + 1) home.now ∷ [])) }
     ensures room { layout.size < vec_capacity slot.new }
     ensures small { All (λ s. s.value < 2 ^ 32) home.now }
     ensures later { Q.faults disk.old ≤ Q.faults disk.new }
     ensures failed { OnErr result (Q.faults disk.old < Q.faults disk.new) }
 {
     fill_slot(slot, count + 1, home);
-    let gate = layout.gate_of(count);
-    write_synced(disk, gate + 1, slot.as_slice())?;
-    write_synced(disk, gate, &[1])
-}
-
-// Writes, and syncs.
-fn write_synced<Q: Disk>(disk: &mut Q, at: u64, from: &[u8]) -> Result<(), Failed>
-    requires at { Q.told ≡ true → at ≤ length (Q.seen disk.old) }
-    requires durable { Q.told ≡ true → LeavesThis (Q.seen disk.old) (Q.images disk.old) }
-    ensures written { Q.told ≡ true
-        → OnOk result (Holds (Q.seen disk.old) at from.now (Q.seen disk.new)) }
-    ensures durable { Q.told ≡ true
-        → OnOk result (LeavesThis (Q.seen disk.new) (Q.images disk.new)) }
-    ensures any_moment { Q.told ≡ true → LeavesOnly Q.moment Q.images_since disk.old disk.new
-        (Torn at (length from.now) (Q.seen disk.old)) }
-    ensures later { Q.faults disk.old ≤ Q.faults disk.new }
-    ensures failed { OnErr result (Q.faults disk.old < Q.faults disk.new) }
-{
-    disk.write_at(at, from)?;
-    disk.sync()
+    write_group(disk, layout, u64::from(count), slot.as_slice())
 }

@@ -4,7 +4,20 @@ ghost use Rattle.home_journal.specs.Slots.{body_size, slot_state, stand_bytes, s
 ghost use Rattle.home_types.specs.Limits.{most_devices};
 
 use home_types::{Kind, List, NoMemory, Stand, World};
+use slot_disks::Layout;
 use std::alloc::Global;
+
+/// The slots of a home with so many devices.
+pub(crate) fn layout_of(devices: u64, most: u32) -> Layout
+    requires { devices ≤ most_devices }
+    ensures size { result.size ≡ body_size devices }
+    ensures most { result.most ≡ most }
+{
+    Layout {
+        size: 6 + 5 * devices as u32,
+        most: u64::from(most),
+    }
+}
 
 /// Makes a state of so many devices, all of them down at 0.
 pub(crate) fn blank_state(alloc: Global, devices: u64) -> Result<World, NoMemory>

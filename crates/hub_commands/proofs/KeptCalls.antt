@@ -1,7 +1,7 @@
 -- A call that keeps the states of a day: how it ends, from how its parts have.
 use Rattle.hub_commands.proofs.Prelude.{Bool, Day, Err, Fault, HasEndedBehind, IsDamage, IsDiskLeft, IsReplayOf, IsUnread, JournalState, KeepsFirst, Kind, LeavesOldOrSame, List, Memory, NoScriptIsRead, None, NothingIsPlayed, Ok, Option, Options, Reads, Script, Shown, Some, Stand, WindowRecord, Writes, ap, arith, inl, inr, kinds_of, last_states, length, refl, subst, sym, true, windows_of, ℕ, ◌<◌, ◌∙◌, ◌≡◌, ◌≤◌, ◌⊎◌}
-use Rattle.home_journal.proofs.Cited.{then_on, weaker}
-use Rattle.home_journal.specs.Disks.{LeavesThis}
+use Rattle.slot_disks.proofs.Cited.{then_on, weaker}
+use Rattle.slot_disks.specs.Disks.{LeavesThis}
 use Rattle.home_journal.specs.KeptStates.{kept_states}
 use Rattle.home_journal.specs.declared.journals.OpenFault.TheVariants.{Damaged as HasDamage, Failed, NoMemory}
 use Rattle.home_journal.specs.declared.journals.OpenFault.{OpenFault}

@@ -1,7 +1,7 @@
 -- A day that is kept: one window more, and how it ends.
 use Rattle.hub_commands.proofs.Prelude.{AddsStates, Bool, Check, Cross, Damaged, Day, DayCourse, DayEndsOn, DevicesAreProbed, Disk, Fault, HandsAllBack, HasEndedKept, HasGoneOn, HomeState, IsDiskLeft, IsGoingOn, IsJournalSoFar, IsLegalCutDayFrom, IsUnkeptOn, JournalState, KeepsAtLeast, KeepsFirst, KeptDayEnds, Kind, LeavesFirst, List, Listed, Memory, None, Ok, Option, Options, Read, Script, Shown, Some, Stand, WindowRecord, WindowWay, Words, Write, Writes, [], ap, append-nil, append_assoc, arith, inl, inr, kinds_of, last_states, length, length-drop, length-map, plain, refl, states_kept, subst, sym, true, windows_behind, windows_of, ℕ, ◌++◌, ◌+◌, ◌-◌, ◌<◌, ◌∙◌, ◌∷◌, ◌≡◌, ◌≤◌, ◌⊎◌}
-use Rattle.home_journal.proofs.Cited.{then_on, weaker}
-use Rattle.home_journal.specs.Disks.{LeavesOnly, LeavesThis}
+use Rattle.slot_disks.proofs.Cited.{then_on, weaker}
+use Rattle.slot_disks.specs.Disks.{LeavesOnly, LeavesThis}
 use Rattle.home_journal.specs.KeptStates.{kept_states}
 use Rattle.hub_commands.proofs.DaysUnderWay.{cut_is_legal}
 use Rattle.hub_commands.proofs.KeptStates.{all_kept, first_kept, next_kept, states_more, surely_few}

@@ -1,7 +1,8 @@
 -- The states that a journal keeps, with one more.
 use Rattle.hub_commands.proofs.Prelude.{Bool, Check, Cross, Damaged, Disk, Err, Fault, KeepsAtLeast, KeepsFirst, Kind, List, Memory, None, Ok, Option, Read, Result, Some, Stand, WindowRecord, Words, Write, [], ap, append-nil, append_assoc, arith, drop, false, if◌then◌else◌, last_states, length, length-append, map-append, nat_lt, refl, suc, surely_kept, sym, take, take_all, true, zero, ℕ, ◌&&◌, ◌++◌, ◌+◌, ◌<◌, ◌==◌, ◌∙◌, ◌∷◌, ◌≡◌, ◌≤◌}
 use Rattle.home_journal.specs.KeptStates.{kept_states, states_from, with_first}
-use Rattle.home_journal.specs.Slots.{body_size, open_slots, slot_state}
+use Rattle.home_journal.specs.Slots.{body_size, slot_state}
+use Rattle.slot_disks.specs.Slots.{open_slots}
 use Rattle.hub_commands.specs.declared.faults.Fault.TheVariants.{Script as Refuses}
 use Rattle.std.proofs.Math.Seq.{take-append_seam}
 

@@ -3,7 +3,7 @@ use Rattle.command_words.specs.declared.command_lines.Options.{Options}
 use Rattle.day_report.specs.Days.{kept_line}
 use Rattle.device_states.specs.Devices.{Shown}
 use Rattle.history_book.specs.declared.records.WindowRecord.{WindowRecord}
-use Rattle.home_journal.specs.Disks.{LeavesOnly}
+use Rattle.slot_disks.specs.Disks.{LeavesOnly}
 use Rattle.home_journal.specs.Journals.{JournalState, KeepsFirst}
 use Rattle.home_journal.specs.KeptStates.{kept_states}
 use Rattle.home_types.specs.HomeStates.{stand_at}

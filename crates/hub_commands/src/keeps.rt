@@ -16,9 +16,10 @@ use crate::kept_days::keep_day;
 use command_words::{CommandLine, Options, WordFault, read_words};
 use day_clock::{Sink, Source};
 use device_states::Bench;
-use home_journal::{Disk, Journal, OpenFault};
+use home_journal::{Journal, OpenFault};
 use hub_core::script_kinds;
 use routine_reader::Script;
+use slot_disks::Disk;
 use std::alloc::Global;
 
 /// Reads the words of `keep`.

@@ -1,6 +1,6 @@
 //! A day whose states are kept: each is on the disk before the text of its window is written.
 ghost use Rattle.std.specs.Prelude.{◌≡◌, ◌+◌, ◌<◌, ◌≤◌, [], IfOk, IsTrue, None, Some, length, true};
-ghost use Rattle.home_journal.specs.Disks.{LeavesThis};
+ghost use Rattle.slot_disks.specs.Disks.{LeavesThis};
 ghost use Rattle.home_types.specs.Limits.{most_windows};
 ghost use Rattle.hub_commands.specs.Finishes.{written};
 ghost use Rattle.hub_commands.specs.Going.{IsLastOf, KeepsWindows};
@@ -22,10 +22,11 @@ use command_words::Options;
 use day_clock::{Failed, Sink};
 use day_report::kept_head_text;
 use device_states::{Bench, Device};
-use home_journal::{Disk, Journal};
+use home_journal::Journal;
 use home_types::{List, NoMemory};
 use hub_core::Home;
 use routine_reader::Script;
+use slot_disks::Disk;
 use std::alloc::Global;
 
 /// A day under way, and the journal that keeps the states of its home.

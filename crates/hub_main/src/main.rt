@@ -9,12 +9,13 @@ mod progress;
 
 use day_clock::{Clock, Sink, Source, StdClock, StdSink, StdSource};
 use device_states::{SimBench, SimDevice};
-use home_journal::{Disk, FileDisk};
+use home_journal::FILE_NAME;
 use hub_commands::{
     Fault, Finish, RoomFinish, keep_command, room_command, run_command, still_command,
     watch_command_telling,
 };
 use progress::{Showing, ShownProgress, how_to_show};
+use slot_disks::{Disk, FileDisk};
 use status_board::Teller;
 use std::alloc::Global;
 use std::env;
@@ -49,7 +50,7 @@ fn main(rt: HostRuntime) -> ExitCode {
         &mut sink,
         &clock,
         &mut teller,
-        FileDisk::new(&rt),
+        FileDisk::new(&rt, FILE_NAME),
     );
     ExitCode::from(match &finish.fault {
         Some(fault) => tell(&rt, fault),

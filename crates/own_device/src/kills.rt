@@ -7,10 +7,11 @@ ghost use Rattle.routine_reader.specs.Sound.{IsSound};
 
 use crate::radio_devices::{RadioBench, RadioDevice, Thing};
 use crate::windows::{MOST_TURNS, open_window, work};
-use home_journal::{Journal, MemoryDisk};
+use home_journal::Journal;
 use home_types::{Bytes, NoMemory};
 use hub_core::{Home, Hub, script_kinds};
 use routine_reader::{Script, read_script};
+use slot_disks::MemoryDisk;
 use std::alloc::Global;
 use std::io::Write;
 

@@ -3,9 +3,9 @@
 ghost use Rattle.logged_calls.specs.Calls.{HasCivilTime};
 
 use call_log::{AppendFault, CallLog, Head, LogFault};
-use home_journal::{Disk, MemoryDisk};
 use home_types::{Bytes, List, NoMemory, RunNo};
 use logged_calls::{Logged, good_bytes};
+use slot_disks::{Disk, MemoryDisk};
 use std::alloc::Global;
 use std::process::Abort;
 

@@ -5,8 +5,9 @@ ghost use Rattle.home_journal.specs.Journals.{IsStateOf};
 ghost use Rattle.home_types.specs.Limits.{most_devices, most_windows};
 ghost use Rattle.std.specs.Prelude.{◌≡◌, ◌≤◌, [], ◌∷◌, IfOk, length};
 
-use home_journal::{Disk, FILE_NAME, FileDisk, Journal, MemoryDisk, OpenFault};
+use home_journal::{FILE_NAME, Journal, OpenFault};
 use home_types::{Bytes, Kind, List, NoMemory, Stand, World};
+use slot_disks::{Disk, FileDisk, MemoryDisk};
 use std::alloc::{AllocError, Global};
 use std::fs;
 use std::process::Abort;
@@ -239,7 +240,7 @@ fn kept_in_the_file<R: Files + Drop>(alloc: Global, files: R) -> Result<(u32, bo
     let (Ok(kinds), Ok(home)) = (one_lamp(alloc), lamp_on(alloc)) else {
         return Err(OpenFault::NoMemory);
     };
-    match Journal::open(alloc, FileDisk::new(files), &kinds, 1) {
+    match Journal::open(alloc, FileDisk::new(files, FILE_NAME), &kinds, 1) {
         Ok(journal) => {
             let kept = journal.kept();
             let is_on = match journal.last() {
@@ -273,7 +274,7 @@ fn the_file_of_the_system(rt: HostRuntime) {
     let bytes = fs::read(&rt, FILE_NAME).expect(&rt, "the file");
     assert!(rt; bytes.as_slice() == ONE_LAMP.as_slice());
     assert_eq!(rt; kept_in_the_file(rt.alloc(), rt), Ok((1, true)));
-    let mut disk = FileDisk::new(rt);
+    let mut disk = FileDisk::new(rt, FILE_NAME);
     let mut into = [0; 4];
     assert_eq!(rt; disk.len(), Ok(13));
     assert_eq!(rt; disk.read(10, &mut into), Ok(3));

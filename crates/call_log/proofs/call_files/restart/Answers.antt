@@ -1,7 +1,7 @@
 use Rattle.call_log.proofs.Keeping.{same_or_new}
 use Rattle.call_log.proofs.call_files.restart.Goals as goal
 use Rattle.call_log.specs.CallLogs.{IsSameOrNew}
-use Rattle.home_journal.proofs.Cited.{then_on, weaker}
+use Rattle.slot_disks.proofs.Cited.{then_on, weaker}
 use Rattle.std.proofs.Common.{inr}
 
 pub returns-in_err-shut_first-clause-any_moment : goal.returns-in_err-shut_first-clause-any_moment

@@ -1,6 +1,6 @@
-use Rattle.call_log.proofs.Groups.{both_ok}
 use Rattle.call_log.proofs.Keeping.{shuts_first}
 use Rattle.call_log.proofs.call_files.shut_first.Goals as goal
+use Rattle.slot_disks.proofs.Cited.{both_ok}
 use Rattle.std.proofs.Common.{◌+◌}
 
 pub returns-clause-settled : goal.returns-clause-settled

@@ -1,6 +1,6 @@
 use Rattle.home_journal.proofs.KeptKinds.{last_of_kinds}
 use Rattle.home_journal.proofs.Keeping.{knows_same, same_states}
-use Rattle.home_journal.proofs.Scanning.{found_whole, open_front}
+use Rattle.slot_disks.proofs.Cited.{found_whole, open_front}
 use Rattle.home_journal.proofs.slot_files.prepare.Goals as goal
 use Rattle.home_journal.proofs.Prelude.{IsFound, ap, kept_states, length, subst, sym, ◌∙◌}
 

@@ -1,7 +1,7 @@
 use Rattle.call_log.proofs.Keeping.{finds_now, knows_found}
 use Rattle.call_log.proofs.call_logs.CallLog.begin_anew.Goals as goal
 use Rattle.call_log.specs.CallLogs.{FindsAll, IsSameOrNew, LogState, call_slots}
-use Rattle.home_journal.specs.Disks.{LeavesOnly}
+use Rattle.slot_disks.specs.Disks.{LeavesOnly}
 use Rattle.std.proofs.Common.{[], ap, arith, length, subst, sym, true, ◌≡◌, ◌∙◌}
 
 pub invariant_of-result : goal.invariant_of-result

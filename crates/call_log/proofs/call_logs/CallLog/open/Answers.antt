@@ -2,7 +2,7 @@ use Rattle.call_log.proofs.Keeping.{finds_now, knows_found, of_ok}
 use Rattle.call_log.proofs.call_logs.CallLog.open.Goals as goal
 use Rattle.call_log.specs.CallLogs.{FindsAll, call_slots}
 use Rattle.call_log.specs.KeptCalls.{kept_calls}
-use Rattle.home_journal.specs.SlotFiles.{IsSettled}
+use Rattle.slot_disks.specs.SlotFiles.{IsSettled}
 use Rattle.logged_calls.specs.CallBytes.{calls_from}
 use Rattle.logged_calls.specs.Calls.{IsLoggable}
 use Rattle.std.proofs.Common.{All, ap, arith, length, subst, sym, true, ◌+◌, ◌≡◌, ◌≤◌, ◌∙◌}

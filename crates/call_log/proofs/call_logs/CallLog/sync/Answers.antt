@@ -1,7 +1,7 @@
 use Rattle.call_log.proofs.Keeping.{finds_more, knows_more}
 use Rattle.call_log.proofs.call_logs.CallLog.sync.Goals as goal
 use Rattle.call_log.specs.CallLogs.{KnowsCalls, call_slots}
-use Rattle.home_journal.specs.SlotFiles.{IsSettled}
+use Rattle.slot_disks.specs.SlotFiles.{IsSettled}
 use Rattle.logged_calls.specs.Calls.{IsLoggable}
 use Rattle.std.proofs.Common.{All, ap, arith, length, rules, subst, sym, ◌+◌, ◌≡◌, ◌∙◌}
 

@@ -1,7 +1,7 @@
 use Rattle.home_journal.proofs.Keeping.{IsNextState, keeps_first, keeps_next, knows_next}
-use Rattle.home_journal.proofs.Moments.{weaker}
+use Rattle.slot_disks.proofs.Cited.{weaker}
 use Rattle.home_journal.proofs.journals.Journal.keep.Goals as goal
-use Rattle.home_journal.proofs.Prelude.{All, IsBeforeOrAfter, IsStateOf, JournalState, KeepsFirst, KnowsKept, LeavesFirst, LeavesOnly, List, Ok, Stand, [], ap, arith, body_size, kept_states, last_kept, length, open_slots, state_bytes, states_kept, subst, sym, true, with_slot, ◌*◌, ◌++◌, ◌+◌, ◌<◌, ◌^◌, ◌∙◌, ◌∷◌, ◌≡◌}
+use Rattle.home_journal.proofs.Prelude.{All, IsOldOrAll, IsStateOf, JournalState, KeepsFirst, KnowsKept, LeavesFirst, LeavesOnly, List, Ok, Stand, [], ap, arith, body_size, kept_states, last_kept, length, open_slots, state_bytes, states_kept, subst, sym, true, with_slot, ◌*◌, ◌++◌, ◌+◌, ◌<◌, ◌^◌, ◌∙◌, ◌∷◌, ◌≡◌}
 
 pub invariant_of-result : goal.invariant_of-result
 invariant_of-result g c =
@@ -73,7 +73,7 @@ returns-in-Ok-clause-any_moment g c =
     subst (λ (s : JournalState _). g.Q.Disk.told ≡ true → LeavesFirst g.Q.Disk.seen g.Q.Disk.moment g.Q.Disk.images_since s new (home ∷ [])) is
     (λ told homes kept.
     let state : IsNextState kinds size most count seen home = record { sized = inv.sized; devices = inv.devices; windows = inv.windows; next = next; of_kinds = of_kinds; small = small; counts = (inv.settled told).counts } in
-    let run = subst (λ h. LeavesOnly g.Q.Disk.moment g.Q.Disk.images_since old new (IsBeforeOrAfter size most (open_slots size most seen) (state_bytes (count + 1) h))) e (c.write_slot.ensures.any_moment told) in
+    let run = subst (λ h. LeavesOnly g.Q.Disk.moment g.Q.Disk.images_since old new (IsOldOrAll size most (open_slots size most seen) (state_bytes (count + 1) h ∷ []))) e (c.write_slot.ensures.any_moment told) in
     weaker g.Q.Disk.moment g.Q.Disk.images_since old new _ (KeepsFirst kinds most homes (home ∷ [])) (λ d step. keeps_first kinds size most count seen home state homes kept d step) run)
 
 pub returns-in-Err-clause-any_moment : goal.returns-in-Err-clause-any_moment
@@ -95,7 +95,7 @@ returns-in-Err-clause-any_moment g c =
     subst (λ (s : JournalState _). g.Q.Disk.told ≡ true → LeavesFirst g.Q.Disk.seen g.Q.Disk.moment g.Q.Disk.images_since s new (home ∷ [])) is
     (λ told homes kept.
     let state : IsNextState kinds size most count seen home = record { sized = inv.sized; devices = inv.devices; windows = inv.windows; next = next; of_kinds = of_kinds; small = small; counts = (inv.settled told).counts } in
-    let run = subst (λ h. LeavesOnly g.Q.Disk.moment g.Q.Disk.images_since old new (IsBeforeOrAfter size most (open_slots size most seen) (state_bytes (count + 1) h))) e (c.write_slot.ensures.any_moment told) in
+    let run = subst (λ h. LeavesOnly g.Q.Disk.moment g.Q.Disk.images_since old new (IsOldOrAll size most (open_slots size most seen) (state_bytes (count + 1) h ∷ []))) e (c.write_slot.ensures.any_moment told) in
     weaker g.Q.Disk.moment g.Q.Disk.images_since old new _ (KeepsFirst kinds most homes (home ∷ [])) (λ d step. keeps_first kinds size most count seen home state homes kept d step) run)
 
 pub returns-in-Ok-clause-written : goal.returns-in-Ok-clause-written

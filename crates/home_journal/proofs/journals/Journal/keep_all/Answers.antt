@@ -1,5 +1,5 @@
 use Rattle.home_journal.proofs.Firsts.{first_of_all, home_at, one_more}
-use Rattle.home_journal.proofs.Moments.{then_on, weaker}
+use Rattle.slot_disks.proofs.Cited.{then_on, weaker}
 use Rattle.home_journal.proofs.journals.Journal.keep_all.Goals as goal
 use Rattle.home_journal.proofs.Prelude.{KeepsFirst, Ok, ap, arith, kept_states, length, map, rules, sym, take, ◌++◌, ◌<◌, ◌∙◌}
 

@@ -1,0 +1,9 @@
+mod Images
+mod Moments
+mod Prelude
+mod Choices
+mod OpenSlots
+mod Scanning
+mod Shutting
+mod Groups
+pub mod Cited
