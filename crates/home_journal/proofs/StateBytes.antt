@@ -1,6 +1,6 @@
 -- The states that slots tell: the bytes of a state are read as it, and so are one more and the first that is not good.
 use Rattle.slot_disks.proofs.Cited.{if_both, if_not_first, if_not_second, one_size}
-use Rattle.home_journal.proofs.Prelude.{All, All-more, Bool, Err, IsStateOf, Kind, List, None, Ok, Option, Result, Some, Stand, States, [], ap, append-nil, append_assoc, arith, body_size, common_steps, drop, drop_all, drop_more, false, flat_map, flat_map_more, from_le_bytes, from_le_bytes-to_le_bytes_2, from_le_bytes-to_le_bytes_4, get_or, has_value, if◌then◌else◌, inl, inr, is_ok, kind_at, last_kept_home, length, length-append, nat_le, nat_tests, option_map, refl, set, slice_get, slot_state, stand_at, stand_bytes, stands_of, state_bytes, states_from, suc, sym, take, take_all, take_more, take_more_set, to_le_bytes, true, true≢false, w16, w32, with_first, ℕ, ◌&&◌, ◌*◌, ◌++◌, ◌+◌, ◌-◌, ◌<◌, ◌==◌, ◌^◌, ◌∙◌, ◌∷◌, ◌≡◌, ◌≤◌, ◌⊎◌, IsGroup, with_group, with_slot, mul-le, suc-mul}
+use Rattle.home_journal.proofs.Prelude.{All, All-more, Bool, Err, IsStateOf, Kind, List, None, Ok, Option, Result, Some, Stand, States, [], ap, append-nil, append_assoc, arith, body_size, common_steps, drop, drop_all, drop_more, false, flat_map, flat_map_more, from_le_bytes, from_le_bytes-to_le_bytes_2, from_le_bytes-to_le_bytes_4, get_or, has_value, if◌then◌else◌, inl, inr, is_ok, kind_at, last_kept_home, length, length-append, nat_le, nat_tests, option_map, refl, set, slice_get, slot_state, stand_at, stand_bytes, stands_of, state_bytes, states_from, suc, sym, take, take_all, take_more, take_more_set, to_le_bytes, true, true≢false, w16, w32, with_first, ℕ, ◌*◌, ◌++◌, ◌+◌, ◌-◌, ◌<◌, ◌==◌, ◌^◌, ◌∙◌, ◌∷◌, ◌≡◌, ◌≤◌, ◌⊎◌, IsGroup, with_group, with_slot, mul-le, suc-mul}
 
 -- what a byte says of a device, and back
 up_byte : (up : Bool) → ((if up then 1 else 0) == 1) ≡ up

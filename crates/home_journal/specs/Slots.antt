@@ -5,7 +5,7 @@ use Rattle.home_types.specs.declared.worlds.Stand.{Stand}
 use Rattle.std.specs.Int.{from_le_bytes, to_le_bytes, w16, w32}
 use Rattle.std.specs.List.{flat_map}
 use Rattle.std.specs.Option.{option_map}
-use Rattle.std.specs.Prelude.{Bool, List, None, Option, Some, [], drop, if◌then◌else◌, length, nat_le, nat_lt, slice_get, suc, take, true, zero, ℕ, ◌&&◌, ◌*◌, ◌++◌, ◌+◌, ◌==◌, ◌∷◌}
+use Rattle.std.specs.Prelude.{List, None, Option, Some, [], drop, if◌then◌else◌, length, nat_le, take, ℕ, ◌&&◌, ◌*◌, ◌++◌, ◌+◌, ◌==◌, ◌∷◌}
 
 -- how many bytes stand behind a gate in the file of a home with so many devices
 abbrev pub body_size : ℕ → ℕ
