@@ -21,7 +21,7 @@ use Rattle.std.proofs.lemmas.List.Elements.{All-tail}
 use Rattle.std.proofs.lemmas.List.{append-nil, length-map, take_all}
 use Rattle.std.proofs.lemmas.Nat.{from_le_bytes-to_le_bytes_2, from_le_bytes-to_le_bytes_4, from_le_bytes-to_le_bytes_8}
 use Rattle.std.specs.Int.{from_le_bytes, to_le_bytes}
-use Rattle.std.specs.Prelude.{Err, IfOk, Ok, OnOk, Result, if◌then◌else◌, ◌==◌}
+use Rattle.std.specs.Prelude.{Err, IfOk, Ok, Result, if◌then◌else◌, ◌==◌}
 
 -- the law of the bytes of calls
 abbrev pub ReadsAll : Type 0
