@@ -3,7 +3,9 @@ use Rattle.command_words.specs.CommandLines.{command_line_of}
 use Rattle.command_words.specs.declared.command_lines.CommandLine.TheVariants.{Check, Keep, Replay, Run, Trial, Watch}
 use Rattle.command_words.specs.declared.command_lines.CommandLine.{CommandLine}
 use Rattle.command_words.specs.declared.command_lines.Options.{Options}
-use Rattle.std.specs.Prelude.{List, None, Option, Some, option_and_then, ℕ}
+use Rattle.hub_commands.specs.declared.day_words.DayCall.TheVariants.{Keeps, Runs, Watches}
+use Rattle.hub_commands.specs.declared.day_words.DayCall.{DayCall}
+use Rattle.std.specs.Prelude.{List, None, Option, Some, option_and_then, ℕ, ◌≡◌}
 
 -- every command but `run`, `watch` and `keep`
 abbrev pub still_line : CommandLine → Option CommandLine
@@ -54,3 +56,15 @@ watch_line_of words = option_and_then watch_line (command_line_of words)
 -- the options of a kept day, where the words are of one
 abbrev pub keep_options_of : List (List ℕ) → Option Options
 keep_options_of words = option_and_then keep_options (command_line_of words)
+
+-- the words are of the call's command, with these options
+abbrev pub IsOfDay : DayCall → List (List ℕ) → Options → Type 0
+IsOfDay Runs words options = run_line_of words ≡ Some (Run options)
+IsOfDay Watches words options = watch_line_of words ≡ Some (Watch options)
+IsOfDay Keeps words options = keep_options_of words ≡ Some options
+
+-- they are of no command that the call takes
+abbrev pub IsOfNoDay : DayCall → List (List ℕ) → Type 0
+IsOfNoDay Runs words = run_line_of words ≡ None
+IsOfNoDay Watches words = watch_line_of words ≡ None
+IsOfNoDay Keeps words = keep_options_of words ≡ None

@@ -1,5 +1,5 @@
 //! A chunk of text, made and written.
-ghost use Rattle.std.specs.Prelude.{◌≡◌, ◌<◌, Err, IfOk, Ok};
+ghost use Rattle.std.specs.Prelude.{Err, Ok};
 ghost use Rattle.hub_commands.specs.Chunks.{ChunkEnds};
 ghost use Rattle.hub_commands.specs.Finishes.{written};
 

@@ -1,5 +1,5 @@
 //! The call for `keep`: a day that is replayed, with the state after each window kept in a journal.
-ghost use Rattle.std.specs.Prelude.{◌≡◌, Err, IfOk, IsTrue, None, Some, map, string_bytes};
+ghost use Rattle.std.specs.Prelude.{◌≡◌, IsTrue, None, map, string_bytes};
 ghost use Rattle.hub_commands.specs.CommandsTaken.{keep_options_of};
 ghost use Rattle.hub_commands.specs.Finishes.{read_off, written};
 ghost use Rattle.hub_commands.specs.KeepCalls.{JournalIsOpened, KeepEnds, ScriptIsKept, opening_fault};
@@ -8,12 +8,13 @@ ghost use Rattle.hub_core.specs.Openings.{is_mode};
 ghost use Rattle.routine_reader.specs.Scripts.{plain_script};
 ghost use Rattle.routine_reader.specs.Sound.{IsSound};
 
+use crate::day_words::{DayCall, read_day_words};
 use crate::days::refuse;
 use crate::faults::Fault;
 use crate::finishes::Finish;
 use crate::inputs::read_input;
 use crate::kept_days::keep_day;
-use command_words::{CommandLine, Options, WordFault, read_words};
+use command_words::{Options, WordFault};
 use day_clock::{Sink, Source};
 use device_states::Bench;
 use home_journal::{Journal, OpenFault};
@@ -21,24 +22,6 @@ use hub_core::script_kinds;
 use routine_reader::Script;
 use slot_disks::Disk;
 use std::alloc::Global;
-
-/// Reads the words of `keep`.
-fn read_keep_words(alloc: Global, words: &[String]) -> Result<Options, WordFault>
-    ensures meaning { IfOk result
-        (λ options. keep_options_of (map string_bytes words.now) ≡ Some options) }
-    ensures refused { result ≡ Err WordFault.Words
-        → keep_options_of (map string_bytes words.now) ≡ None }
-{
-    match read_words(alloc, words) {
-        Ok(CommandLine::Keep(options)) => Ok(options),
-        Ok(CommandLine::Run(_)) => Err(WordFault::Words),
-        Ok(CommandLine::Replay(_)) => Err(WordFault::Words),
-        Ok(CommandLine::Watch(_)) => Err(WordFault::Words),
-        Ok(CommandLine::Check) => Err(WordFault::Words),
-        Ok(CommandLine::Trial(_)) => Err(WordFault::Words),
-        Err(fault) => Err(fault),
-    }
-}
 
 /// Opens the journal of the script's home on the disk.
 fn open_journal<Q: Disk>(alloc: Global, script: &Script, disk: Q) -> Result<Journal<Q>, (Q, Fault)>
@@ -117,7 +100,7 @@ pub fn keep_command<S: Source, K: Sink, B: Bench, Q: Disk>(
     // No device is built, so none is called, before a day begins.
     ensures unasked { result.0.day ≡ None → bench.new ≡ bench.old }
 {
-    let options = match read_keep_words(alloc, words) {
+    let options = match read_day_words(alloc, DayCall::Keeps, words) {
         Ok(options) => options,
         Err(WordFault::Words) => return (refuse(Fault::Words), disk),
         Err(WordFault::NoMemory) => return (refuse(Fault::Memory), disk),

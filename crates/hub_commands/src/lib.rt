@@ -4,6 +4,7 @@
 mod board_lines;
 mod checks;
 mod chunks;
+mod day_words;
 mod days;
 mod divisions;
 mod faults;

@@ -5,7 +5,7 @@ ghost use Rattle.hub_commands.specs.Boards.{HasOneMore, IsPosting, IsToldOf, as_
 ghost use Rattle.hub_commands.specs.Going.{IsNextToTell, windows_in};
 ghost use Rattle.status_board.specs.Publishings.{last_of};
 ghost use Rattle.status_board.specs.declared.day_counts.Counts.{Counts};
-ghost use Rattle.std.specs.Prelude.{◌≡◌, ◌+◌, ◌++◌, ◌<◌, ◌^◌, ◌∷◌, [], List, None, Option, Some, ℕ};
+ghost use Rattle.std.specs.Prelude.{◌≡◌, ◌+◌, ◌++◌, ◌<◌, ◌^◌, ◌∷◌, [], List, None, Option, Some};
 
 use crate::plays::UntoldDay;
 use crate::told_windows::{ToldWindow, ends_told};

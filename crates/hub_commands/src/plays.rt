@@ -1,5 +1,5 @@
 //! A day under way: its home and records, the opening of the next window and its closing.
-ghost use Rattle.std.specs.Prelude.{◌≡◌, ◌+◌, ◌<◌, ◌≤◌, ◌++◌, ◌∷◌, [], IfErr, IfOk, IsTrue, false, length};
+ghost use Rattle.std.specs.Prelude.{◌≡◌, ◌+◌, ◌<◌, ◌≤◌, ◌++◌, ◌∷◌, [], IfErr, IfOk, IsTrue, length};
 ghost use Rattle.home_types.specs.Limits.{most_windows};
 ghost use Rattle.hub_commands.specs.Played.{NextIsOpened};
 ghost use Rattle.hub_core.specs.Homes.{HomeIsKept};

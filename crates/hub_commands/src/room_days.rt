@@ -3,7 +3,7 @@ ghost use Rattle.home_types.specs.Limits.{most_devices, most_windows};
 ghost use Rattle.hub_commands.specs.Finishes.{written};
 ghost use Rattle.hub_commands.specs.RoomCalls.{RoomDayEnds, SplitBefore};
 ghost use Rattle.hub_commands.specs.RoomDevices.{HasDevicesOf, HasRoomFor, IsRoomed};
-ghost use Rattle.hub_commands.specs.RoomGoing.{AreNewHomes, HasRoomForWindows, IsFirstDay, IsNewHome, IsNextRoomDay, IsRoomDay, IsWrittenSoFar, RoomGoesOn, RoomHasEnded, RoomHasWritten, RoomNextIs, RoomStopEnds, TellsLines};
+ghost use Rattle.hub_commands.specs.RoomGoing.{AreNewHomes, IsFirstDay, IsNewHome, IsNextRoomDay, IsRoomDay, RoomGoesOn, RoomHasEnded, RoomHasWritten, RoomNextIs, RoomStopEnds, TellsLines};
 ghost use Rattle.hub_commands.specs.Statuses.{status_for_fault};
 ghost use Rattle.history_book.specs.Settings.{is_weak};
 ghost use Rattle.hub_core.specs.Openings.{is_mode};
@@ -14,7 +14,7 @@ ghost use Rattle.room_hubs.specs.Rooms.{plain_rooms, rooms_of};
 ghost use Rattle.room_hubs.specs.ToldWindows.{IsToldOfRooms};
 ghost use Rattle.routine_reader.specs.Scripts.{plain_script};
 ghost use Rattle.routine_reader.specs.Sound.{IsSound};
-ghost use Rattle.std.specs.Prelude.{◌≡◌, ◌<◌, ◌≤◌, ◌++◌, ◌∷◌, [], All, Err, IfErr, IfOk, IsTrue, None, Ok, OnOk, Some, false, length};
+ghost use Rattle.std.specs.Prelude.{◌≡◌, ◌<◌, ◌≤◌, ◌++◌, ◌∷◌, [], All, Err, IfOk, IsTrue, None, Ok, OnOk, Some, false, length};
 
 use crate::chunks::{ChunkFault, write_chunk};
 use crate::faults::Fault;

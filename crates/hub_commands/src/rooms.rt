@@ -1,13 +1,12 @@
 //! The call for `rooms`: a day that is run with threads, by a hub for each room.
 ghost use Rattle.command_words.specs.RoomWords.{room_mode_of};
 ghost use Rattle.hub_commands.specs.Finishes.{read_off, written};
-ghost use Rattle.hub_commands.specs.RoomCalls.{IsFirstRefused, IsSplitFault, RoomCallEnds, SplitBefore, SplitsEnd};
+ghost use Rattle.hub_commands.specs.RoomCalls.{IsSplitFault, RoomCallEnds, SplitBefore, SplitsEnd};
 ghost use Rattle.hub_commands.specs.Statuses.{status_for_fault};
 ghost use Rattle.room_hubs.specs.Rooms.{plain_rooms, rooms_of};
-ghost use Rattle.room_hubs.specs.Splits.{script_split};
 ghost use Rattle.routine_reader.specs.Scripts.{plain_script};
 ghost use Rattle.routine_reader.specs.Sound.{IsSound};
-ghost use Rattle.std.specs.Prelude.{◌≡◌, ◌<◌, ◌≢◌, ◌+◌, ◌^◌, Err, IfErr, IfOk, length, map, string_bytes};
+ghost use Rattle.std.specs.Prelude.{◌≡◌, ◌<◌, ◌+◌, ◌^◌, Err, IfErr, IfOk, length, map, string_bytes};
 
 use crate::faults::Fault;
 use crate::inputs::read_input;

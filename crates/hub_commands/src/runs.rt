@@ -1,5 +1,5 @@
 //! The call for `run`: a day that is run with threads.
-ghost use Rattle.std.specs.Prelude.{◌≡◌, ◌<◌, [], Err, IfErr, IfOk, IsTrue, None, Some, false, length, map, string_bytes};
+ghost use Rattle.std.specs.Prelude.{◌≡◌, ◌<◌, [], IfErr, IfOk, IsTrue, None, length, map, string_bytes};
 ghost use Rattle.hub_commands.specs.CommandsTaken.{run_line_of};
 ghost use Rattle.hub_commands.specs.Boards.{IsToldOf};
 ghost use Rattle.hub_commands.specs.Days.{DayIsUnderWay, new_course, plain};
@@ -15,6 +15,7 @@ ghost use Rattle.hub_core.specs.Steps.{opened};
 ghost use Rattle.routine_reader.specs.Scripts.{plain_script};
 ghost use Rattle.routine_reader.specs.Sound.{IsSound};
 
+use crate::day_words::{DayCall, read_day_words};
 use crate::days::{begin, end, go_on, refuse};
 use crate::faults::Fault;
 use crate::finishes::Finish;
@@ -23,7 +24,7 @@ use crate::onlookers::{Nobody, Onlooker, tell_of};
 use crate::plays::{DayUnderWay, UntoldDay, close_next, open_next};
 use crate::told_windows::ToldWindow;
 use crate::ways::InThreads;
-use command_words::{CommandLine, Options, WordFault, read_words};
+use command_words::{Options, WordFault};
 use day_clock::{Clock, Sink, Source};
 use device_states::{Bench, Device};
 use history_book::WindowRecord;
@@ -137,24 +138,6 @@ where
     end(&way, alloc, options, day, sink)
 }
 
-/// Reads the words of `run`.
-fn read_run_words(alloc: Global, words: &[String]) -> Result<Options, WordFault>
-    ensures meaning { IfOk result
-        (λ options. run_line_of (map string_bytes words.now) ≡ Some (CommandLine.Run options)) }
-    ensures refused { result ≡ Err WordFault.Words
-        → run_line_of (map string_bytes words.now) ≡ None }
-{
-    match read_words(alloc, words) {
-        Ok(CommandLine::Run(options)) => Ok(options),
-        Ok(CommandLine::Replay(_)) => Err(WordFault::Words),
-        Ok(CommandLine::Watch(_)) => Err(WordFault::Words),
-        Ok(CommandLine::Keep(_)) => Err(WordFault::Words),
-        Ok(CommandLine::Check) => Err(WordFault::Words),
-        Ok(CommandLine::Trial(_)) => Err(WordFault::Words),
-        Err(fault) => Err(fault),
-    }
-}
-
 /// Runs the command that may wait.
 ///
 /// `run` reads a day's script from the source, works its windows on devices of the bench with
@@ -186,7 +169,7 @@ where
     // No device is built, so none is called, before a day begins.
     ensures unasked { result.day ≡ None → bench.new ≡ bench.old }
 {
-    let options = match read_run_words(alloc, words) {
+    let options = match read_day_words(alloc, DayCall::Runs, words) {
         Ok(options) => options,
         Err(WordFault::Words) => return refuse(Fault::Words),
         Err(WordFault::NoMemory) => return refuse(Fault::Memory),

@@ -1,11 +1,10 @@
 //! The call for `watch`: a day that is run with threads, and watched while it runs.
-ghost use Rattle.std.specs.Prelude.{◌≡◌, [], Err, IfOk, IfSome, IsSome, IsTrue, None, Some, map, string_bytes, true};
+ghost use Rattle.std.specs.Prelude.{◌≡◌, [], IfSome, IsSome, IsTrue, None, map, string_bytes, true};
 ghost use Rattle.hub_commands.specs.Boards.{IsPosting, board_line};
 ghost use Rattle.hub_commands.specs.Calls.{CallEnds, IsProbedInAll};
 ghost use Rattle.hub_commands.specs.CommandsTaken.{watch_line_of};
 ghost use Rattle.hub_commands.specs.Days.{boarded, plain};
 ghost use Rattle.hub_commands.specs.Finishes.{DayEnds, IsUnwritten, read_off, written};
-ghost use Rattle.hub_commands.specs.Going.{HandsBack};
 ghost use Rattle.hub_commands.specs.LastLines.{LineEnds};
 ghost use Rattle.hub_commands.specs.Statuses.{status_for_fault};
 ghost use Rattle.hub_commands.specs.Watched.{IsPublished};
@@ -16,13 +15,14 @@ ghost use Rattle.routine_reader.specs.Sound.{IsSound};
 ghost use Rattle.status_board.specs.Publishings.{last_of};
 
 use crate::board_lines::board_line;
+use crate::day_words::{DayCall, read_day_words};
 use crate::days::{end_with_line, end_without_devices, refuse};
 use crate::faults::Fault;
 use crate::finishes::Finish;
 use crate::inputs::read_input;
 use crate::onlookers::Posting;
 use crate::runs::run_day;
-use command_words::{CommandLine, Options, WordFault, read_words};
+use command_words::{Options, WordFault};
 use day_clock::{Clock, Sink, Source};
 use device_states::{Bench, Device};
 use home_types::{List, NoMemory};
@@ -177,24 +177,6 @@ where
     (end_watched(alloc, seen, finish, sink), Some(publisher))
 }
 
-/// Reads the words of `watch`.
-fn read_watch_words(alloc: Global, words: &[String]) -> Result<Options, WordFault>
-    ensures meaning { IfOk result
-        (λ options. watch_line_of (map string_bytes words.now) ≡ Some (CommandLine.Watch options)) }
-    ensures refused { result ≡ Err WordFault.Words
-        → watch_line_of (map string_bytes words.now) ≡ None }
-{
-    match read_words(alloc, words) {
-        Ok(CommandLine::Watch(options)) => Ok(options),
-        Ok(CommandLine::Run(_)) => Err(WordFault::Words),
-        Ok(CommandLine::Replay(_)) => Err(WordFault::Words),
-        Ok(CommandLine::Keep(_)) => Err(WordFault::Words),
-        Ok(CommandLine::Check) => Err(WordFault::Words),
-        Ok(CommandLine::Trial(_)) => Err(WordFault::Words),
-        Err(fault) => Err(fault),
-    }
-}
-
 /// Runs `watch`, and tells nobody what the watcher reads while the day runs:
 /// `watch_command_telling` with nobody to tell.
 pub fn watch_command<R: Threads + Wait + Sync, S: Source, K: Sink, B: Bench, C: Clock + Sync>(
@@ -272,7 +254,7 @@ where
     ensures unopened { result.1 ≡ None → IsUnwritten
         (written (K.holds sink.old) (K.holds sink.new) (K.faults sink.old) (K.faults sink.new)) }
 {
-    let options = match read_watch_words(alloc, words) {
+    let options = match read_day_words(alloc, DayCall::Watches, words) {
         Ok(options) => options,
         Err(WordFault::Words) => return (refuse(Fault::Words), None),
         Err(WordFault::NoMemory) => return (refuse(Fault::Memory), None),

@@ -1,11 +1,7 @@
-use Rattle.hub_commands.proofs.AskedModes.{keep_goes}
 use Rattle.hub_commands.proofs.EndedCalls.{no_script}
 use Rattle.hub_commands.proofs.KeptCalls.{refused_keep, starved_keep}
 use Rattle.hub_commands.proofs.keeps.keep_command.Goals as goal
 use Rattle.hub_commands.proofs.Prelude.{IsUnread, IsUnwritten, keep_options_of, map, read_off, refl, rules, string_bytes, written}
-
-pub keep_script-requires-clause-goes : goal.keep_script-requires-clause-goes
-keep_script-requires-clause-goes g c = keep_goes (map string_bytes c.args.words.now) c.in-Ok.options c.in-Ok.ensures.meaning
 
 pub returns-in-Err-NoMemory-clause-ends : goal.returns-in-Err-NoMemory-clause-ends
 returns-in-Err-NoMemory-clause-ends g c =

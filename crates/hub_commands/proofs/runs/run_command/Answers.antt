@@ -1,13 +1,8 @@
-use Rattle.hub_commands.proofs.AskedModes.{run_goes}
 use Rattle.hub_commands.proofs.GivenDays.{day_given}
 use Rattle.hub_commands.proofs.ProbedDays.{probed_in_all}
 use Rattle.hub_commands.proofs.runs.run_command.Goals as goal
 use Rattle.hub_commands.proofs.Prelude.{IsRunWithin, IsUnread, IsUnwritten, Run, Some, inl, map, new_course, plain, read_off, refl, rules, run_line_of, string_bytes, written}
 use Rattle.hub_commands.proofs.EndedCalls.{asked_for, no_script, starved_words}
-
-pub run_day-requires-clause-goes : goal.run_day-requires-clause-goes
-run_day-requires-clause-goes g c κs within =
-    run_goes (map string_bytes c.args.words.now) c.in-Ok.options c.in-Ok.ensures.meaning
 
 pub returns-clause-probed : goal.returns-clause-probed
 returns-clause-probed g c none =

@@ -1,13 +1,8 @@
-use Rattle.hub_commands.proofs.AskedModes.{watch_goes}
 use Rattle.hub_commands.proofs.GivenDays.{day_given}
 use Rattle.hub_commands.proofs.ProbedDays.{probed_in_all}
 use Rattle.hub_commands.proofs.watches.watch_command_telling.Goals as goal
 use Rattle.hub_commands.proofs.Prelude.{IsRunWithin, IsUnread, IsUnwritten, Some, Watch, boarded, inl, map, new_course, read_off, refl, rules, string_bytes, watch_line_of, written}
 use Rattle.hub_commands.proofs.EndedCalls.{asked_for, no_script, starved_words}
-
-pub watch_day-requires-clause-goes : goal.watch_day-requires-clause-goes
-watch_day-requires-clause-goes g c κs within =
-    watch_goes (map string_bytes c.args.words.now) c.in-Ok.options c.in-Ok.ensures.meaning
 
 pub returns-clause-probed : goal.returns-clause-probed
 returns-clause-probed g c none =
