@@ -79,7 +79,7 @@ windows_more : {D : Type 0} (works : WindowWay) (shows : D → Shown) (course : 
     → (day : IsUnderWayOn works shows course mode before records) → (is : IsPlayed works shows (script_of course) mode (length records) before after closed)
     → WindowsArePlayedOn works course mode (records ++ closed ∷ []) (day.takes ++ is.worked.taken ∷ [])
 windows_more works shows course mode before after records closed day is = record {
-  count = let within = slice_get_within (script_of course).windows.items (length records) is.opens.window is.opens.at in omega (arith, within, length_more records closed);
+  count = let within = slice_get_within (script_of course).windows.items (length records) is.window is.opens.at in omega (arith, within, length_more records closed);
   legal = each_more (λ w k c. IsLegalWindow w c) course mode records closed day.played.legal (subst (λ w. IsLegalWindow w closed) (setting_played is ∙ here) is.worked.legal);
   worked = record {
     count = omega (arith, length_more records closed, length_more day.takes is.worked.taken, day.played.worked.count);
@@ -103,11 +103,11 @@ windows_more works shows course mode before after records closed day is = record
           let taken_old : slice_get day.takes k ≡ Some taken = sym (get_front day.takes is.worked.taken k (omega (arith, within, day.played.worked.count))) ∙ taken_at in
           subst (λ w. works w window c taken) (sym (setting_before course mode records closed k (omega (arith, within)))) (day.played.worked.each k window c taken window_at old taken_old))
       | inr new ↦ (let taken_last : Some is.worked.taken ≡ Some taken = sym (get_last day.takes is.worked.taken) ∙ ap (λ n. slice_get (day.takes ++ is.worked.taken ∷ []) n) (day.played.worked.count ∙ sym new.0) ∙ taken_at in
-          let window_last : Some is.opens.window ≡ Some window = sym is.opens.at ∙ ap (λ n. slice_get (script_of course).windows.items n) (sym new.0) ∙ window_at in
+          let window_last : Some is.window ≡ Some window = sym is.opens.at ∙ ap (λ n. slice_get (script_of course).windows.items n) (sym new.0) ∙ window_at in
           let same_taken : is.worked.taken ≡ taken = cc in
-          let same_window : is.opens.window ≡ window = cc in
-          let here_too : works (setting_from course.begins mode (records ++ closed ∷ []) (length records)) is.opens.window closed is.worked.taken =
-          subst (λ w. works w is.opens.window closed is.worked.taken) (setting_played is ∙ here ∙ sym (setting_before course mode records closed (length records) (omega (arith)))) is.worked.way in
+          let same_window : is.window ≡ window = cc in
+          let here_too : works (setting_from course.begins mode (records ++ closed ∷ []) (length records)) is.window closed is.worked.taken =
+          subst (λ w. works w is.window closed is.worked.taken) (setting_played is ∙ here ∙ sym (setting_before course mode records closed (length records) (omega (arith)))) is.worked.way in
           let Q : ℕ × WindowText × WindowRecord × (ℕ → ℕ) → Type 0 = λ q. works (setting_from course.begins mode (records ++ closed ∷ []) q.0) q.1 q.2 q.3 in
           subst Q (λ i. (sym new.0 i, same_window i, new.1 i, same_taken i)) here_too)
     ]

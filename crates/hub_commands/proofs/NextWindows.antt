@@ -1,12 +1,12 @@
 -- The next window of a day: opened, worked, and what came of it.
-use Rattle.hub_commands.proofs.Prelude.{DayCourse, Err, HasGoneOn, HomeIsKept, HomeState, IfErr, IfOk, IsUnderWayOn, IsWorkedAs, List, Listed, Mode, NextIs, NextIsOpened, Ok, PlaysOneMore, Result, Script, Shown, Some, WindowRecord, WindowText, WindowWay, [], ap, arith, course_behind, drop, length, map, option_map, refl, run_of_text, script_of, script_runs, setting_on, slice_get, subst, suc, sym, unwrap_or, windows_behind, zero, ℕ, ◌++◌, ◌+◌, ◌∙◌, ◌∷◌, ◌≡◌}
+use Rattle.hub_commands.proofs.Prelude.{DayCourse, Err, HomeState, IfErr, IfOk, IsClosed, IsUnderWayOn, IsWorkedAs, List, Listed, Mode, NextIs, NextIsOpened, Ok, PlaysOneMore, Result, Script, Shown, Some, WindowRecord, WindowText, WindowWay, ℕ, [], ap, arith, course_behind, drop, length, map, option_map, refl, run_of_text, script_runs, slice_get, subst, suc, sym, unwrap_or, windows_behind, zero, ◌++◌, ◌+◌, ◌∙◌, ◌∷◌, ◌≡◌}
 use Rattle.hub_commands.proofs.DaysUnderWay.{gone_on}
+use Rattle.hub_commands.proofs.Snocs.{length_more}
+use Rattle.hub_commands.specs.Going.{IsLastOf}
 use Rattle.hub_commands.specs.declared.plays.DayUnderWay.{DayUnderWay}
 use Rattle.hub_commands.specs.declared.plays.UntoldDay.{UntoldDay}
 use Rattle.hub_core.specs.HubCalls.{IsOpened}
-use Rattle.hub_core.specs.OpenHubs.{OpenHub, configuration_of}
-use Rattle.hub_core.specs.Steps.{opened}
-use Rattle.run_replay.proofs.Cited.{fresh_where}
+use Rattle.hub_core.specs.OpenHubs.{OpenHub}
 
 get_behind : {X : Type 0} (xs : List X) (n k : ℕ) → slice_get (drop n xs) k ≡ slice_get xs (n + k)
 get_behind xs zero k = let none : k ≡ 0 + k = omega (arith) in ap (λ i. slice_get xs i) none
@@ -18,51 +18,46 @@ pub behind_at : (script : Script) (before k : ℕ) (window : WindowText) → sli
 behind_at script before k window at = get_behind script.windows.items before k ∙ at
 
 -- it is opened as that of its number in the whole script
-pub opened_behind : {D : Type 0} (shows : D → Shown) (script : Script) (mode : Mode) (before k : ℕ) (home : HomeState D) (hub : OpenHub D) → NextIsOpened shows script mode (before + k) home hub
-    → NextIsOpened shows (windows_behind before script) mode k home hub
-opened_behind shows script mode before k home hub is = record {
-  window = is.window;
-  at = behind_at script before k is.window is.at;
-  opened = subst (λ runs. IsOpened shows (record { runs = runs; mode = mode; kinds = home.kinds; first = home.world }) is.window.probes home hub) same is.opened;
+pub opened_behind : {D : Type 0} (shows : D → Shown) (script : Script) (mode : Mode) (before k : ℕ) (home : HomeState D) (hub : OpenHub D) (window : WindowText)
+    → NextIsOpened shows script mode (before + k) home hub window → NextIsOpened shows (windows_behind before script) mode k home hub window
+opened_behind shows script mode before k home hub window is = record {
+  fresh = is.fresh;
+  rounds = is.rounds;
+  at = behind_at script before k window is.at;
+  opened = subst (λ runs. IsOpened shows (record { runs = runs; mode = mode; kinds = home.kinds; first = home.world }) window.probes home hub) same is.opened;
   numbered = is.numbered;
 }
   where
     same : script_runs script (before + k) ≡ script_runs (windows_behind before script) k
     same = ap (λ o. unwrap_or (option_map (λ (t : WindowText). map (run_of_text script) t.runs.items) o) []) (sym (get_behind script.windows.items before k))
 
--- nothing was done in it yet
-pub next_fresh : {D : Type 0} (shows : D → Shown) (script : Script) (mode : Mode) (k : ℕ) (home : HomeState D) (hub : OpenHub D) → NextIsOpened shows script mode k home hub
-    → configuration_of hub ≡ opened hub.setting hub.rounds
-next_fresh shows script mode k home hub is = fresh_where shows (setting_on script mode k home) is.window.probes home hub is.opened
+module _ {D M : Type 0} (works : WindowWay) (shows : D → Shown) (script : Script) (mode : Mode) (before : ℕ) (day : DayUnderWay D) (hub : OpenHub D) (window : WindowText) (windows : List WindowRecord)
+    (worked : Result (HomeState D × WindowRecord) M)
+    (is : NextIsOpened shows (windows_behind before script) mode (length day.windows.items) day.home hub window) (same : windows ≡ day.windows.items) (worked_so : IfOk worked (λ done. IsWorkedAs works shows hub window done.0 done.1)) where
+  worked_as : (next : UntoldDay D) → IsClosed shows windows worked next → IsWorkedAs works shows hub window next.home next.closed
+  worked_as next closed = subst (λ (r : Result (HomeState D × WindowRecord) M). IfOk r (λ done. IsWorkedAs works shows hub window done.0 done.1)) closed.is worked_so
 
-same_window : {D : Type 0} (shows : D → Shown) (script : Script) (mode : Mode) (k : ℕ) (window : WindowText) (home : HomeState D) (hub : OpenHub D) → (is : NextIsOpened shows script mode k home hub)
-    → slice_get script.windows.items k ≡ Some window → is.window ≡ window
-same_window shows script mode k window home hub is at = let both : Some is.window ≡ Some window = sym is.at ∙ at in cc
+  -- the day has gone on by the window that was worked
+  pub one_more : (o : Result (UntoldDay D) (Listed WindowRecord)) → IfOk o (λ next. IsClosed shows windows worked next) → IfOk o (λ next. PlaysOneMore works shows script before mode day next)
+  one_more (Ok next) closed = λ course under.
+      gone_on works shows (course_behind script before course) mode day.home next.home day.windows.items next.windows.items next.closed under closed.kept
+      (record { hub = hub; window = window; opens = is; worked = worked_as next closed }) (closed.more ∙ ap (λ ws. ws ++ next.closed ∷ []) same)
+  one_more (Err records) closed = tt
 
--- its rounds are those of its text
-pub next_rounds : {D : Type 0} (shows : D → Shown) (script : Script) (mode : Mode) (k : ℕ) (window : WindowText) (home : HomeState D) (hub : OpenHub D) → NextIsOpened shows script mode k home hub
-    → slice_get script.windows.items k ≡ Some window → hub.rounds ≡ window.probes
-next_rounds shows script mode k window home hub is at = is.opened.rounds_are ∙ ap (λ v. v.probes) (same_window shows script mode k window home hub is at)
+  -- its home has the kinds of the one that it was opened on
+  pub same_kinds : (o : Result (UntoldDay D) (Listed WindowRecord)) → IfOk o (λ next. IsClosed shows windows worked next) → IfOk o (λ next. next.home.kinds ≡ day.home.kinds)
+  same_kinds (Ok next) closed = (worked_as next closed).after.kinds ∙ ap (λ c. c.setting.kinds) is.opened.configuration
+  same_kinds (Err records) closed = tt
 
--- its home has the kinds of the one that it was opened on
-pub next_kinds : {D : Type 0} (works : WindowWay) (shows : D → Shown) (script : Script) (mode : Mode) (k : ℕ) (window : WindowText) (before after : HomeState D) (hub : OpenHub D)
-    (closed : WindowRecord)
-    → NextIsOpened shows script mode k before hub → IsWorkedAs works shows hub window after closed → after.kinds ≡ before.kinds
-next_kinds works shows script mode k window before after hub closed is worked = worked.after.kinds ∙ ap (λ c. c.setting.kinds) is.opened.configuration
+  pub more_windows : (o : Result (UntoldDay D) (Listed WindowRecord)) → IfOk o (λ next. IsClosed shows windows worked next) → IfOk o (λ next. length next.windows.items ≡ length day.windows.items + 1)
+  more_windows (Ok next) closed = let all = ap (λ ws. length ws) closed.more in let kept = ap (λ ws. length ws) same in omega (arith, all, kept, length_more windows next.closed)
+  more_windows (Err records) closed = tt
 
--- the day has gone on by the window that was worked
-pub next_gone : {D : Type 0} (works : WindowWay) (shows : D → Shown) (course : DayCourse) (mode : Mode) (window : WindowText) (before after : HomeState D) (hub : OpenHub D)
-    (records more : List WindowRecord) (closed : WindowRecord)
-    → IsUnderWayOn works shows course mode before records → NextIsOpened shows (script_of course) mode (length records) before hub
-    → slice_get (script_of course).windows.items (length records) ≡ Some window → IsWorkedAs works shows hub window after closed
-    → HomeIsKept shows after → more ≡ records ++ closed ∷ []
-    → HasGoneOn works shows course mode records after more
-next_gone works shows course mode window before after hub records more closed day is at worked kept all =
-    gone_on works shows course mode before after records more closed day kept (record {
-      hub = hub;
-      opens = is;
-      worked = subst (λ v. IsWorkedAs works shows hub v after closed) (sym (same_window shows (script_of course) mode (length records) window before hub is at)) worked;
-    }) all
+-- its record is the last
+pub last_closed : {D M : Type 0} (shows : D → Shown) (windows : List WindowRecord) (worked : Result (HomeState D × WindowRecord) M) (o : Result (UntoldDay D) (Listed WindowRecord))
+    → IfOk o (λ next. IsClosed shows windows worked next) → IfOk o (λ next. IsLastOf next.closed next.windows.items)
+last_closed shows windows worked (Ok next) closed = (windows, closed.more)
+last_closed shows windows worked (Err records) closed = tt
 
 -- what came of the next window behind so many of the script
 pub next_played : {D : Type 0} (works : WindowWay) (shows : D → Shown) (script : Script) (before : ℕ) (mode : Mode) (day : DayUnderWay D) (course : DayCourse) (next : Result (UntoldDay D) (Listed WindowRecord))
@@ -71,10 +66,3 @@ pub next_played : {D : Type 0} (works : WindowWay) (shows : D → Shown) (script
     → NextIs works shows (course_behind script before course) mode day.windows.items next
 next_played works shows script before mode day course (Ok next) under played same = played course under
 next_played works shows script before mode day course (Err windows) under played same = same
-
--- what came of it
-pub next_is : {D : Type 0} (works : WindowWay) (shows : D → Shown) (course : DayCourse) (mode : Mode) (records : List WindowRecord) (next : Result (UntoldDay D) (Listed WindowRecord))
-    → IfOk next (λ day. HasGoneOn works shows course mode records day.home day.windows.items) → IfErr next (λ windows. windows.items ≡ records)
-    → NextIs works shows course mode records next
-next_is works shows course mode records (Ok day) gone same = gone
-next_is works shows course mode records (Err windows) gone same = same

@@ -1,15 +1,16 @@
 -- A window of the script that was opened on a home and worked: what it leaves.
 use Rattle.device_gate.proofs.Cited.{home_at}
 use Rattle.device_gate.specs.declared.gates.Place.TheVariants.{Home}
-use Rattle.hub_commands.proofs.Prelude.{HomeState, IsWorkedAs, Mode, NextIsOpened, Script, Shown, Some, WindowRecord, WindowWay, ap, length, length-map, setting_on, slice_get, slice_index_or, sym, ℕ, ◌+◌, ◌∙◌, ◌≡◌}
+use Rattle.hub_commands.proofs.Prelude.{HomeState, IsWorkedAs, Mode, NextIsOpened, Script, Shown, Some, WindowRecord, WindowText, WindowWay, ap, length, length-map, setting_on, slice_get, slice_index_or, sym, ℕ, ◌+◌, ◌∙◌, ◌≡◌}
 use Rattle.hub_core.specs.OpenHubs.{OpenHub}
 
 -- the script's window of this number was opened on the home, was worked in this way, and left another home with this record
 pub record IsPlayed {D : Type 0} (works : WindowWay) (shows : D → Shown) (script : Script) (mode : Mode)
     (k : ℕ) (before after : HomeState D) (closed : WindowRecord) : Type 0 where
   pub hub : OpenHub D
-  pub opens : NextIsOpened shows script mode k before hub
-  pub worked : IsWorkedAs works shows hub opens.window after closed
+  pub window : WindowText
+  pub opens : NextIsOpened shows script mode k before hub window
+  pub worked : IsWorkedAs works shows hub window after closed
 
 -- the device after a window: the same one, whose calls rose as the record says, and its probes by those that were taken
 pub record IsPlayedOn {D : Type 0} (shows : D → Shown) (called failed probed : ℕ) (before after : D) : Type 0 where

@@ -19,7 +19,7 @@ pub use Rattle.hub_commands.specs.Days.{Closing, DayCourse, DayIsUnderWay, Devic
 pub use Rattle.hub_commands.specs.Finishes.{AppendsFirst, DayEnds, DayEndsOn, DayIsWhole, InputIsRead, IsCut, IsCutOn, IsRead, IsStarved, IsStarvedOn, IsUnread, IsUnwritten, IsWholeOn, IsWrittenAsClosed, IsWrittenAsClosedOn, NoScriptIsRead, NothingIsPlayed, Reads, Writes, read_off, written}
 pub use Rattle.hub_commands.specs.Going.{HandsBack, IsGoingOn, IsNextToTell, IsToldOfDay, NextIs, PlaysOneMore, windows_in}
 pub use Rattle.hub_commands.specs.KeptDays.{HandsAllBack, HasEndedBehind, HasEndedKept, HomeBegins, HomeGoesOn, IsDiskLeft, IsJournalSoFar, IsKeptSoFar, IsUnkeptOn, KeepsAtLeast, KeptDayEnds, kept_course, last_states, surely_kept, windows_of}
-pub use Rattle.hub_commands.specs.Played.{HasGoneOn, IsWorkedAs, NextIsOpened, setting_on}
+pub use Rattle.hub_commands.specs.Played.{HasGoneOn, IsClosed, IsWorkedAs, NextIsOpened, setting_on}
 pub use Rattle.hub_commands.specs.RoomDays.{AgreesWithRooms, AreSplit, EachOrderAgrees, RoomsAreLeft, RoomsArePlayed, RoomsAreUnderWay, Windows, home_executed, records_of, room_count, rooms_home_before, told_records}
 pub use Rattle.hub_commands.specs.RoomDevices.{AreAllPlaced, HasDevicesOf, HasRoomFor, IsRoomed}
 pub use Rattle.hub_commands.specs.RoomGoing.{AreNewHomes, AreTold, IsFirstDay, IsNewHome, IsRoomDay, IsWrittenSoFar, Lines, RoomGoesOn, RoomNextIs, RoomStopEnds, TellsLines, lines_from}

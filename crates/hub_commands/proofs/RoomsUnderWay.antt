@@ -5,7 +5,8 @@ use Rattle.home_types.specs.Kinds.{kind_at}
 use Rattle.home_types.specs.declared.commands.Job.TheVariants.{Check, Load, Set, Store}
 use Rattle.home_types.specs.declared.commands.Job.{Job}
 use Rattle.hub_commands.proofs.MergedLists.{HaveRoom, records_count}
-use Rattle.hub_commands.proofs.NextWindows.{next_gone}
+use Rattle.hub_commands.proofs.DaysUnderWay.{gone_on}
+use Rattle.hub_commands.proofs.PlayedWindows.{IsPlayed}
 use Rattle.hub_commands.proofs.WorkedWays.{rounds_at, run_as}
 use Rattle.hub_commands.specs.RoomPlays.{AreOpened, AreTakenApart, MayAllOpen, RoomWent, RoomsWent}
 use Rattle.hub_core.specs.HubCalls.{IsOpened}
@@ -203,9 +204,14 @@ rooms_gone_on {D = D} earliest latest shows script mode w window before after wi
         let opened : IsOpened shows (setting_on (own_script script k) mode (length (records_of k windows)) x) window.probes x room.hub =
         subst (λ runs. IsOpened shows (record { runs = runs; mode = mode; kinds = x.kinds; first = x.world }) window.probes x room.hub)
         (ap (λ (r : Room). r.own_runs) place ∙ sym (own_runs_are script k w) ∙ ap (script_runs (own_script script k)) (sym (number ∙ count))) room.opened in
-        let gone = next_gone (IsRunWithin earliest latest) shows (new_course (own_script script k)) mode (own_window script k window) x y room.hub (records_of k windows) (records_of k windows ++ win.closed ∷ []) win.closed
-        is (record { window = own_window script k window; at = own_at; opened = opened; numbered = numbered is }) own_at
-        (run_as shows earliest latest room.hub (own_window script k window) y win.closed room.opened.rounds_are room.worked) room.kept refl in
+        let fresh = fresh_where shows (setting_on (own_script script k) mode (length (records_of k windows)) x) window.probes x room.hub opened in
+        let played : IsPlayed (IsRunWithin earliest latest) shows (own_script script k) mode (length (records_of k windows)) x y win.closed = record {
+          hub = room.hub;
+          window = own_window script k window;
+          opens = record { fresh = fresh; rounds = room.opened.rounds_are; at = own_at; opened = opened; numbered = numbered is };
+          worked = run_as shows earliest latest room.hub (own_window script k window) y win.closed room.opened.rounds_are room.worked;
+        } in
+        let gone = gone_on (IsRunWithin earliest latest) shows (new_course (own_script script k)) mode x y (records_of k windows) (records_of k windows ++ win.closed ∷ []) win.closed is room.kept played refl in
         subst (λ rs. DayIsUnderWay (IsRunWithin earliest latest) shows (own_script script k) mode y rs) (sym (records_more k windows ws win win_at)) gone.under_way
       where
         inside : k < room_count script

@@ -73,15 +73,9 @@ pub fn replay_next<D: Device>(
     ensures kinds { IfOk result (λ next. next.home.kinds ≡ day.home.kinds) }
     ensures starved { IfErr result (λ windows. windows.items ≡ day.windows.items) }
 {
-    let (hub, windows) = match open_next(alloc, script, mode, before, day) {
-        Ok(opened) => opened,
-        Err(windows) => return Err(windows),
-    };
-    let number = before as usize + windows.len() as usize;
-    let window = &script.windows.as_slice()[number];
-    match replay_opened(alloc, hub, window) {
-        Ok(done) => Ok(close_next(windows, done.0, done.1)),
-        Err(NoMemory) => Err(windows),
+    match open_next(alloc, script, mode, before, day) {
+        Ok((hub, window, windows)) => close_next(windows, replay_opened(alloc, hub, window)),
+        Err(windows) => Err(windows),
     }
 }
 

@@ -1,17 +1,19 @@
 //! The call for `run`: a day that is run with threads.
-ghost use Rattle.std.specs.Prelude.{◌≡◌, ◌<◌, [], IfErr, IfOk, IsTrue, None, length, map, string_bytes};
+ghost use Rattle.std.specs.Prelude.{◌≡◌, ◌+◌, ◌<◌, ◌≤◌, [], IfErr, IfOk, IsTrue, None, length, map, string_bytes};
+ghost use Rattle.home_types.specs.Limits.{most_windows};
 ghost use Rattle.hub_commands.specs.CommandsTaken.{run_line_of};
 ghost use Rattle.hub_commands.specs.Boards.{IsToldOf};
-ghost use Rattle.hub_commands.specs.Days.{DayIsUnderWay, new_course, plain};
+ghost use Rattle.hub_commands.specs.Days.{plain};
 ghost use Rattle.hub_commands.specs.Calls.{CallEnds, IsProbedInAll};
 ghost use Rattle.hub_commands.specs.Finishes.{DayEnds, read_off, written};
-ghost use Rattle.hub_commands.specs.Going.{IsLastOf, IsToldOfDay};
-ghost use Rattle.hub_commands.specs.Played.{HasGoneOn, IsWorkedAs};
+ghost use Rattle.hub_commands.specs.Going.{IsLastOf, IsToldOfDay, PlaysOneMore};
+ghost use Rattle.hub_commands.specs.Played.{IsWorkedAs};
 ghost use Rattle.hub_commands.specs.Statuses.{status_for_fault};
 ghost use Rattle.hub_commands.specs.Ways.{IsRunWithin};
 ghost use Rattle.hub_core.specs.OpenHubs.{configuration_of};
 ghost use Rattle.hub_core.specs.Openings.{is_mode};
 ghost use Rattle.hub_core.specs.Steps.{opened};
+ghost use Rattle.routine_reader.specs.Rosters.{kinds_of};
 ghost use Rattle.routine_reader.specs.Scripts.{plain_script};
 ghost use Rattle.routine_reader.specs.Sound.{IsSound};
 
@@ -74,23 +76,20 @@ fn run_next<R: Threads + Wait + Sync, D: Device + Send, C: Clock + Sync>(
     requires sound { IsSound (plain_script script.now) }
     requires goes { IsTrue (is_mode mode) }
     requires next { length day.windows.items < length script.now.windows.items }
-    requires under_way { DayIsUnderWay (IsRunWithin (C.earliest clock.now) (C.latest clock.now))
-        D.shows script.now mode day.home day.windows.items }
+    requires kinds { day.home.kinds ≡ kinds_of script.now }
+    requires few { day.home.opened ≤ most_windows }
     ensures played { IfOk result
-        (λ next. HasGoneOn (IsRunWithin (C.earliest clock.now) (C.latest clock.now)) D.shows
-        (new_course script.now) mode day.windows.items next.home next.windows.items) }
+        (λ next. PlaysOneMore (IsRunWithin (C.earliest clock.now) (C.latest clock.now)) D.shows
+        script.now 0 mode day next) }
+    ensures more { IfOk result (λ next. length next.windows.items ≡ length day.windows.items + 1) }
     ensures last { IfOk result (λ next. IsLastOf next.closed next.windows.items) }
     ensures starved { IfErr result (λ windows. windows.items ≡ day.windows.items) }
 {
-    let (hub, windows) = match open_next(alloc, script, mode, 0, day) {
-        Ok(opened) => opened,
-        Err(windows) => return Err(windows),
-    };
-    let number = windows.len() as usize;
-    let window = &script.windows.as_slice()[number];
-    match run_opened(rt, alloc, hub, window, clock) {
-        Ok(done) => Ok(close_next(windows, done.0, done.1)),
-        Err(NoMemory) => Err(windows),
+    match open_next(alloc, script, mode, 0, day) {
+        Ok((hub, window, windows)) => {
+            close_next(windows, run_opened(rt, alloc, hub, window, clock))
+        }
+        Err(windows) => Err(windows),
     }
 }
 

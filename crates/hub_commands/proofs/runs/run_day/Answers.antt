@@ -1,5 +1,5 @@
 use Rattle.hub_commands.proofs.CountedRuns.{next_to_tell}
-use Rattle.hub_commands.proofs.NextWindows.{next_is}
+use Rattle.hub_commands.proofs.NextWindows.{next_played}
 use Rattle.hub_commands.proofs.PublishedDays.{told_back}
 use Rattle.hub_commands.proofs.runs.run_day.Goals as goal
 use Rattle.hub_commands.proofs.Prelude.{IsRunWithin, IsToldOf, arith, length, new_course, subst, sym, ◌∙◌, ◌≡◌}
@@ -9,9 +9,9 @@ returns-in-Err-go_on g c =
     let D = g.B.Dev.Device in
     let K = g.K.Sink in
     let end = c.in-Err-go_on.ensures.written (new_course c.args.script.now) (K.holds c.args.sink.now) (K.faults c.args.sink.now) c.windows.day.home c.windows.day.windows.items c.windows.invariant.going
-    (next_is (IsRunWithin (g.C.Clock.earliest c.args.clock.now) (g.C.Clock.latest c.args.clock.now)) D.shows
-    (new_course c.args.script.now) c.args.options.mode c.windows.day.windows.items c.run_next-next.result c.run_next-next.ensures.played
-    c.run_next-next.ensures.starved) in
+    (next_played (IsRunWithin (g.C.Clock.earliest c.args.clock.now) (g.C.Clock.latest c.args.clock.now)) D.shows
+    c.args.script.now 0 c.args.options.mode c.windows.day (new_course c.args.script.now) c.run_next-next.result
+    c.windows.invariant.going.under_way c.run_next-next.ensures.played c.run_next-next.ensures.starved) in
     record {
       status = end.0;
       ends = end.1;
@@ -25,9 +25,9 @@ windows-preserved g c =
     let D = g.B.Dev.Device in
     let K = g.K.Sink in
     let on = c.in-Ok-go_on.ensures.written (new_course c.args.script.now) (K.holds c.args.sink.now) (K.faults c.args.sink.now) c.windows.day.home c.windows.day.windows.items c.windows.invariant.going
-    (next_is (IsRunWithin (g.C.Clock.earliest c.args.clock.now) (g.C.Clock.latest c.args.clock.now)) D.shows
-    (new_course c.args.script.now) c.args.options.mode c.windows.day.windows.items c.run_next-next.result c.run_next-next.ensures.played
-    c.run_next-next.ensures.starved) in
+    (next_played (IsRunWithin (g.C.Clock.earliest c.args.clock.now) (g.C.Clock.latest c.args.clock.now)) D.shows
+    c.args.script.now 0 c.args.options.mode c.windows.day (new_course c.args.script.now) c.run_next-next.result
+    c.windows.invariant.going.under_way c.run_next-next.ensures.played c.run_next-next.ensures.starved) in
     let counted = c.windows.invariant.counted in
     let more = on.0 in
     record {
@@ -55,7 +55,8 @@ tell_of-requires-clause-next g c =
     let works = IsRunWithin (g.C.Clock.earliest c.args.clock.now) (g.C.Clock.latest c.args.clock.now) in
     let shown = D.shows in
     next_to_tell works shown c.args.script.now c.args.options.mode c.windows.day.windows.items _ c.run_next-next.result c.requires.sound c.windows.invariant.told
-    (next_is works shown (new_course c.args.script.now) c.args.options.mode c.windows.day.windows.items c.run_next-next.result c.run_next-next.ensures.played c.run_next-next.ensures.starved)
+    (next_played works shown c.args.script.now 0 c.args.options.mode c.windows.day (new_course c.args.script.now) c.run_next-next.result
+    c.windows.invariant.going.under_way c.run_next-next.ensures.played c.run_next-next.ensures.starved)
 
 pub returns-in-Err-clause-told : goal.returns-in-Err-clause-told
 returns-in-Err-clause-told g c = told_back _ _ _ c.requires.new c.in-Err.ensures.kept
