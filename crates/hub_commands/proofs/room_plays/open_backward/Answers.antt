@@ -1,6 +1,6 @@
 use Rattle.hub_commands.proofs.RoomSteps.{all_opened, next_may_open, no_more, opening_begins, opening_goes_on}
 use Rattle.hub_commands.proofs.room_plays.open_backward.Goals as goal
-use Rattle.hub_commands.proofs.Prelude.{[], arith, length, rules, ◌++◌, ◌+◌, ◌<◌, ◌∷◌, ◌≡◌}
+use Rattle.hub_commands.proofs.Prelude.{[], arith, length, rules, ◌++◌, ◌<◌, ◌∷◌, ◌≡◌}
 
 pub rooms-init : goal.rooms-init
 rooms-init g c =

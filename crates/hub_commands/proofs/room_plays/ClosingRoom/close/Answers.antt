@@ -1,6 +1,6 @@
 use Rattle.hub_commands.proofs.RoomSteps.{taking_goes_on}
 use Rattle.hub_commands.proofs.room_plays.ClosingRoom.close.Goals as goal
-use Rattle.hub_commands.proofs.Prelude.{[], arith, length, rules, ◌++◌, ◌+◌, ◌<◌, ◌∷◌, ◌≡◌}
+use Rattle.hub_commands.proofs.Prelude.{[], arith, length, rules, ◌++◌, ◌<◌, ◌∷◌, ◌≡◌}
 
 pub rooms-preserved : goal.rooms-preserved
 rooms-preserved g c =
