@@ -85,6 +85,10 @@ fn is_overdue(s: &Standing, placed: u64, d: DeviceNo, moment: u64, access: Acces
     requires { (r : ℕ) → length (commands_of s.now.runs r) ≤ most_commands }
     ensures { result ≡ access_is_overdue s.now.runs s.now.history placed d.0 moment access }
 {
+    if moment <= access.to {
+        // Its deadline is no earlier than its planned end.
+        return false;
+    }
     is_borrower(s.book, placed, access) && lease_deadline(s.roster, d, access) < moment
 }
 
