@@ -25,6 +25,9 @@ impl<D: Device> OpenWindow<D> {
             ≡ strong_command (point_of (configuration_of self.now)) r.0 (max self.now.moment m)
             x.0 x.1) }
     {
+        if self.history.is_weak() {
+            return None;
+        }
         if !self.history.has_run(r) {
             return None;
         }
@@ -39,9 +42,6 @@ impl<D: Device> OpenWindow<D> {
             return None;
         };
         if progress.placed.is_none() {
-            return None;
-        }
-        if self.history.is_weak() {
             return None;
         }
         if let Some(_) = progress.doomed {
