@@ -22,6 +22,7 @@ impl<D: Device> OpenWindow<D> {
     /// What the run is to do, which is placed and has not ended: it ends at once where it is
     /// doomed, else its next command is skipped, waits for a device that is out, is told that it is
     /// down, or goes out, and with none left the run commits.
+    #[inline(always)]
     pub(crate) fn decide_weakly(&self, r: RunNo, progress: RunProgress) -> Chosen
         requires run { is_run self.now.setting.runs r.0 ≡ true }
         requires known { progress ≡ progress_of ((read_of (configuration_of self.now)).run r.0) }
