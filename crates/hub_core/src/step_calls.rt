@@ -41,10 +41,14 @@ impl<D: Device> Hub<D> {
         self.window.whole_invariant();
         let chosen = self.window.decide(r, moment, &mut self.scratch);
         match chosen {
-            Chosen::HandsOut(d, purpose) if !self.window.is_weak() => {
+            Chosen::HandsOut(d, purpose) => {
                 let grip = self.window.hand_out(r, moment, d, purpose);
                 self.window.whole_invariant();
-                free_going(&mut self.blocked, &self.window, grip.slip().device);
+                if self.window.is_weak() {
+                    self.blocked.unmark_all();
+                } else {
+                    free_going(&mut self.blocked, &self.window, grip.slip().device);
+                }
                 Turn::Go(grip)
             }
             Chosen::Waits(why) if !self.window.is_weak() => {
