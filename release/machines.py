@@ -97,6 +97,12 @@ class Debian:
         lacking = [name for name in names if not self.found(name)]
         if not lacking:
             return
+        self.apt("apt-get", "-q", "download", *lacking)
+        for name in lacking:
+            run(["dpkg-deb", "-x", f"{self.room}/{self.found(name)}", self.root])
+
+    def apt(self, program: str, *words: str) -> str:
+        """Runs a program of apt for this machine, over lists that stand in the folder."""
         for part in ("lists/partial", "cache/archives/partial"):
             os.makedirs(f"{self.room}/{part}", exist_ok=True)
         options = {
@@ -108,15 +114,13 @@ class Debian:
             "APT::Sandbox::User": "root",
             "Acquire::Languages": "none",
         }
-        apt = ["apt-get", *[word for it in options.items() for word in ("-o", "=".join(it))]]
+        given = [word for it in options.items() for word in ("-o", "=".join(it))]
         if (
             not os.listdir(f"{self.room}/lists/partial")
             and len(os.listdir(f"{self.room}/lists")) < 2
         ):
-            run([*apt, "-q", "update"])
-        run([*apt, "-q", "download", *lacking], self.room)
-        for name in lacking:
-            run(["dpkg-deb", "-x", f"{self.room}/{self.found(name)}", self.root])
+            run(["apt-get", *given, "-q", "update"])
+        return run([program, *given, *words], self.room)
 
     def found(self, name: str) -> str | None:
         """The file of a package, where it is there."""

@@ -261,7 +261,9 @@ fi
 
 if command -v cargo >/dev/null; then
     say "the crate"
-    mkdir "$room/crate" && tar -xzf "$(one 'lazbendix-*.crate')" -C "$room/crate" --strip-components=1
+    # (its tests read the examples and VERSION three folders above them)
+    mkdir -p "$room/rust/crate" && ln -s "$top/examples" "$top/VERSION" "$room"
+    tar -xzf "$(one 'lazbendix-*.crate')" -C "$room/rust/crate" --strip-components=1
     mkdir -p "$room/uses/src"
     cat >"$room/uses/Cargo.toml" <<'END'
 [package]
@@ -270,7 +272,7 @@ version = "0.1.0"
 edition = "2021"
 
 [dependencies]
-lazbendix = { path = "../crate" }
+lazbendix = { path = "../rust/crate" }
 
 [workspace]
 END
@@ -284,6 +286,22 @@ fn main() {
 END
     tries "cargo build" env CARGO_TARGET_DIR="$room/target" cargo build -q --offline --manifest-path "$room/uses/Cargo.toml"
     [ "$("$room/target/debug/uses" "$top/examples/leaving.json")" = open ] || fail "the crate does not open a home"
+    if [ -z "$built" ] && rustc=$(PYTHONPATH=$top python3 -m release.rust "$roots/rust" 2>"$said"); then
+        say "aarch64: the tests of the crate, over $days drawn days"
+        python3 "$top/library/tests/cases.py" --days "$days" >"$room/cases"
+        python3 "$top/library/tests/cases.py" --days "$days" --coming >"$room/coming"
+        set -- "$room"/x86_64/lazbendix-*/lib/liblazbendix.so.1
+        tries "logs that x86-64 writes" env LAZBENDIX_LIBRARY="$1" python3 "$top/library/tests/python/written_logs.py" "$room/logs"
+        tries "cargo test" env RUSTC="$rustc" CARGO_TARGET_DIR="$room/target" LAZBENDIX_CASES="$room/cases" \
+            LAZBENDIX_COMING="$room/coming" LAZBENDIX_LOGS="$room/logs" \
+            CARGO_TARGET_AARCH64_UNKNOWN_LINUX_GNU_LINKER=aarch64-linux-gnu-gcc \
+            CARGO_TARGET_AARCH64_UNKNOWN_LINUX_GNU_RUNNER="qemu-aarch64-static -L /usr/aarch64-linux-gnu" \
+            cargo test --offline --target aarch64-unknown-linux-gnu --manifest-path "$room/rust/crate/Cargo.toml"
+        grep '^test ' "$said"
+    elif [ -z "$built" ]; then
+        tail -n 1 "$said"
+        say "SKIPPED: apt-get brings no Rust for aarch64: the crate was not tried there"
+    fi
 else
     say "cargo is not there: the crate was not tried"
 fi
