@@ -115,10 +115,7 @@ class Debian:
             "Acquire::Languages": "none",
         }
         given = [word for it in options.items() for word in ("-o", "=".join(it))]
-        if (
-            not os.listdir(f"{self.room}/lists/partial")
-            and len(os.listdir(f"{self.room}/lists")) < 2
-        ):
+        if not any("_Packages" in it for it in os.listdir(f"{self.room}/lists")):
             run(["apt-get", *given, "-q", "update"])
         return run([program, *given, *words], self.room)
 
