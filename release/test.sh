@@ -286,19 +286,23 @@ fn main() {
 END
     tries "cargo build" env CARGO_TARGET_DIR="$room/target" cargo build -q --offline --manifest-path "$room/uses/Cargo.toml"
     [ "$("$room/target/debug/uses" "$top/examples/leaving.json")" = open ] || fail "the crate does not open a home"
-    if [ -z "$built" ] && rustc=$(PYTHONPATH=$top python3 -m release.rust "$roots/rust" 2>"$said"); then
+    if [ -n "$built" ]; then
+        :
+    elif ! foreign true 2>/dev/null; then
+        say "SKIPPED: this kernel runs no program of aarch64 as its own: the crate was not tried there"
+    elif PYTHONPATH=$top python3 -m release.rust "$roots/rust" >"$said" 2>&1; then
         say "aarch64: the tests of the crate, over $days drawn days"
         python3 "$top/library/tests/cases.py" --days "$days" >"$room/cases"
         python3 "$top/library/tests/cases.py" --days "$days" --coming >"$room/coming"
         set -- "$room"/x86_64/lazbendix-*/lib/liblazbendix.so.1
         tries "logs that x86-64 writes" env LAZBENDIX_LIBRARY="$1" python3 "$top/library/tests/python/written_logs.py" "$room/logs"
-        tries "cargo test" env RUSTC="$rustc" CARGO_TARGET_DIR="$room/target" LAZBENDIX_CASES="$room/cases" \
+        tries "cargo test" foreign env QEMU_LD_PREFIX=/usr/aarch64-linux-gnu CARGO_TARGET_DIR="$room/target" \
+            RUSTC="$roots/rust/rustc" RUSTDOC="$roots/rust/rustdoc" LAZBENDIX_CASES="$room/cases" \
             LAZBENDIX_COMING="$room/coming" LAZBENDIX_LOGS="$room/logs" \
             CARGO_TARGET_AARCH64_UNKNOWN_LINUX_GNU_LINKER=aarch64-linux-gnu-gcc \
-            CARGO_TARGET_AARCH64_UNKNOWN_LINUX_GNU_RUNNER="qemu-aarch64-static -L /usr/aarch64-linux-gnu" \
             cargo test --offline --target aarch64-unknown-linux-gnu --manifest-path "$room/rust/crate/Cargo.toml"
-        grep '^test ' "$said"
-    elif [ -z "$built" ]; then
+        grep '^test .*ok$' "$said"
+    else
         tail -n 1 "$said"
         say "SKIPPED: apt-get brings no Rust for aarch64: the crate was not tried there"
     fi
